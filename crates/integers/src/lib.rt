@@ -4,13 +4,21 @@ ghost use Prim.Native.Nat.{_^_, _<_};
 ghost use lib.IntN.{_+ℤ_, _-ℤ_, natAbs};
 ghost use lib.Signed.{mag, nonNeg};
 ghost use Rattle.integers.specs.Parity.{even, half};
+ghost use Rattle.integers.specs.Narrow.{narrowOf};
+
+// What a 64-bit number is as a 32-bit one.
+pub enum Narrow {
+    Fits(i32),
+    TooWide,
+}
 
 // The absolute value of any a, that of -2^63 too.
 pub fn abs(a: i64) -> u64
     ensures { λ r. ⌜ r ≡ natAbs a ⌝ }
 {
     if a < 0 {
-        (-(a + 1)) as u64 + 1
+        let next = a + 1;
+        (-next) as u64 + 1
     } else {
         a as u64
     }
@@ -60,4 +68,16 @@ pub fn half_difference(a: i32, b: i32) -> i32
     ensures { λ r. ⌜ r ≡ half (a -ℤ b) ⌝ }
 {
     halved(difference(a, b))
+}
+
+pub fn to_i32(a: i64) -> Narrow
+    ensures { λ r. ⌜ r ≡ narrowOf a ⌝ }
+{
+    if a < -2147483648 {
+        return Narrow::TooWide;
+    }
+    if 2147483647 < a {
+        return Narrow::TooWide;
+    }
+    Narrow::Fits(a as i32)
 }

@@ -22,8 +22,8 @@ module _ (c : tie.Then1) where
   next : SFits w64 (z +ℤ pos 1)
   next = sfits-le (facts .0) (c .before .fits .a)
 
-add-result : tie.Need-add-result
-add-result c = rw (toZ-ofZ (c .before .fits .a)) (next c)
+add-next : tie.Need-add-next
+add-next c = rw (toZ-ofZ (c .before .fits .a)) (next c)
 
 sub-result : tie.Need-sub-result
 sub-result c = rw (toZ-ofZ (c .before .fits .a), toZ-ofZ (next c), facts c .1) (omega arith)
@@ -31,8 +31,8 @@ sub-result c = rw (toZ-ofZ (c .before .fits .a), toZ-ofZ (next c), facts c .1) (
 cast-result : tie.Need-cast-result
 cast-result c = rw (toZ-ofZ (c .before .fits .a), toZ-ofZ (next c), facts c .1, toZ-pos w64 {n = mag (z c)} (omega arith)) (tt, omega arith)
 
-add-result-2 : tie.Need-add-result-2
-add-result-2 c = rw (toZ-ofZ (c .before .fits .a), toZ-ofZ (next c), facts c .1, toZ-pos w64 {n = mag (z c)} (omega arith)) (omega arith)
+add-result : tie.Need-add-result
+add-result c = rw (toZ-ofZ (c .before .fits .a), toZ-ofZ (next c), facts c .1, toZ-pos w64 {n = mag (z c)} (omega arith)) (omega arith)
 
 cast-result-2 : tie.Need-cast-result-2
 cast-result-2 c =
@@ -48,4 +48,4 @@ returns-2 c = rw (toZ-ofZ (c .before .fits .a)) refl
 pub abs-spec : {M : Type 1} → statement M
 abs-spec =
     tie.close
-    (tie.spec add-result sub-result cast-result add-result-2 cast-result-2 returns returns-2)
+    (tie.spec add-next sub-result cast-result add-result cast-result-2 returns returns-2)

@@ -1,0 +1,77 @@
+// Rows of whole numbers.
+ghost use Prim.Native.Nat.{_<_};
+ghost use lib.ListN.{length};
+use text::Number;
+
+// How many rows there were, and how many of them differ.
+pub struct Tally {
+    pub rows: u64,
+    pub different: u64,
+}
+
+// The first 32 numbers of a line, how many numbers it has, and the place after the line.
+pub struct Row {
+    pub numbers: [i64; 32],
+    pub count: usize,
+    pub next: usize,
+}
+
+impl Tally {
+    pub fn new() -> Tally {
+        Tally {
+            rows: 0,
+            different: 0,
+        }
+    }
+
+    // With one row more, which is right or not.
+    pub fn with(self, right: bool) -> Tally {
+        Tally {
+            rows: std::num::wrapping_add_u64(self.rows, 1),
+            different: if right {
+                self.different
+            } else {
+                std::num::wrapping_add_u64(self.different, 1)
+            },
+        }
+    }
+}
+
+// The numbers of the line at `at`, whatever stands between them.
+pub fn row_at(s: &[u8], at: usize) -> Row {
+    let end = text::line_end(s, at);
+    let mut numbers = [0i64; 32];
+    let mut count = 0;
+    let mut i = at;
+    while i < end {
+        let mut next = i + 1;
+        if let Number::Value(value, after) = text::number_at(s, i) {
+            if count < 32 {
+                numbers[count] = value;
+                count += 1;
+            }
+            if i < after {
+                next = after;
+            }
+        }
+        i = next;
+    }
+    Row {
+        numbers,
+        count,
+        next: i,
+    }
+}
+
+// Where the line after the one from at to end begins: past at, and at most the length.
+pub fn after(s: &[u8], at: usize, end: usize) -> usize
+    requires { ⌜ at < length (now s) ⌝ }
+    ensures { λ r. ⌜ at < r ⌝ }
+{
+    if at <= end {
+        if end < s.len() {
+            return end + 1;
+        }
+    }
+    s.len()
+}

@@ -1,0 +1,5 @@
+pub mod Runs
+pub mod Saturation
+pub mod Signs
+pub mod Writing
+pub mod Digits

@@ -1,0 +1,27 @@
+-- Runs of bytes that pass a test. They serve the lines that our programs read, of which document 01 has no section. Assumes nothing.
+use Prim.Native.Nat.{ℕ, _+_}
+use mathlib.Core.Bool.{Bool, true, false, cond, not}
+use mathlib.Core.List.{List, [], _∷_}
+use lib.Dec.{eqb}
+use lib.ListN.{length, drop}
+
+-- the longest run of bytes at the front that pass
+unfoldable pub run : (ℕ → Bool) → List ℕ → List ℕ
+run p [] = []
+run p (b ∷ bs) = cond (p b) (b ∷ run p bs) []
+
+-- the place after the longest run from `at` on: `at` itself where `at` is at the end or past it
+unfoldable pub runEnd : (ℕ → Bool) → List ℕ → ℕ → ℕ
+runEnd p s at = at + length (run p (drop at s))
+
+-- x is b, where `same`; x is not b, where not
+abbrev pub isByte : ℕ → Bool → ℕ → Bool
+isByte b same x = cond same (eqb x b) (not (eqb x b))
+
+-- the first place at or after `at` that holds no space, or the length
+abbrev pub spacesFrom : List ℕ → ℕ → ℕ
+spacesFrom = runEnd (isByte 32 true)
+
+-- the first place at or after `at` that holds a line feed, or the length
+abbrev pub lineEnd : List ℕ → ℕ → ℕ
+lineEnd = runEnd (isByte 10 false)

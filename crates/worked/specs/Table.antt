@@ -1,0 +1,70 @@
+-- The starred points of document 01, "Points worked by hand": one table, one test that computes over its rows, and one law that turns the test into
+-- each row's claim. A claim is in the terms of the definitions that the contracts cite.
+use mathlib.Core.Path.{_≡_, refl, _∙_, ap}
+use mathlib.Core.Bool.{Bool, true, false}
+use mathlib.Core.List.{List, [], _∷_}
+use Prim.Native.Nat.{ℕ, _*_}
+use lib.Dec.{T}
+use lib.IntN.{ℤ, pos, negsuc, natAbs}
+use lib.Signed.{leZ, nonNeg, leZ-yes}
+use Rattle.integers.specs.Order.{≼-antisym}
+use Rattle.ring.specs.Sign.{signOf, signOf-is, bySigns, number}
+
+pub data Row : Type 0 where
+  -- the sign of p + q√2, as −1, 0 or 1
+  sign : ℤ → ℤ → ℤ → Row
+
+-- ---- what a row claims
+abbrev pub Claim : Row → Type 0
+Claim (sign p q s) = number (signOf p q) ≡ s
+
+-- ---- the test, on what computes
+abbrev both : Bool → Bool → Bool
+both true b = b
+both false b = false
+
+abbrev same : ℤ → ℤ → Bool
+same x y = both (leZ x y) (leZ y x)
+
+abbrev right : Row → Bool
+right (sign p q s) = same (number (bySigns (nonNeg p) (nonNeg q) (natAbs p * natAbs p) (2 * (natAbs q * natAbs q)))) s
+
+abbrev every : List Row → Bool
+every [] = true
+every (r ∷ rs) = both (right r) (every rs)
+
+-- ---- the law
+both-left : (a b : Bool) → T (both a b) → T a
+both-left true b t = tt
+both-left false b t = t
+
+both-right : (a b : Bool) → T (both a b) → T b
+both-right true b t = t
+both-right false b t = absurd t
+
+same-is : (x y : ℤ) → T (same x y) → x ≡ y
+same-is x y t = ≼-antisym x y (leZ-yes (both-left (leZ x y) (leZ y x) t)) (leZ-yes (both-right (leZ x y) (leZ y x) t))
+
+claim : (r : Row) → T (right r) → Claim r
+claim (sign p q s) t = ap number (signOf-is p q) ∙ same-is _ s t
+
+pub data All : List Row → Type 0 where
+  none : All []
+  more : {r : Row} {rs : List Row} → Claim r → All rs → All (r ∷ rs)
+
+all : (rs : List Row) → T (every rs) → All rs
+all [] t = none
+all (r ∷ rs) t = more (claim r (both-left (right r) (every rs) t)) (all rs (both-right (right r) (every rs) t))
+
+-- ---- the table
+abbrev pub table : List Row
+table =
+    sign (negsuc 6) (pos 5) (pos 1)
+    ∷ sign (negsuc 98) (pos 70) (negsuc 0)
+    ∷ sign (pos 0) (pos 0) (pos 0)
+    ∷ sign (negsuc 9223372036854775807) (pos 6521908912666391106) (negsuc 0)
+    ∷ sign (negsuc 9223372036854775807) (pos 6521908912666391107) (pos 1)
+    ∷ []
+
+pub worked : All table
+worked = all table tt
