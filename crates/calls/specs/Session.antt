@@ -1,0 +1,141 @@
+-- A session and the six kinds of calls: document 01, "The walk" and "A whole list of calls". The records' parser, the test of points and the operators
+-- are parameters.
+use mathlib.Core.Path.{_≡_}
+use mathlib.Core.Bool.{Bool, true, false, not}
+use mathlib.Core.List.{List, [], _∷_}
+use Prim.Native.Nat.{ℕ, _/_}
+use lib.Dec.{eqb}
+use lib.IntN.{ℤ}
+use lib.ListN.{length, take, drop}
+use Rattle.ranks.specs.Handed.{put}
+use Rattle.ranks.specs.Rest.{rest, Place, at, ended, isNil, placeOf}
+
+-- one reading: refused with its number, or accepted with the bytes taken and what they mean
+pub data Reading (A : Type 0) : Type 0 where
+  refuse : ℕ → Reading A
+  accept : ℕ → A → Reading A
+
+-- what the job has so far: not all of scale, A and B, or all three
+pub data Stage (Parts Job : Type 0) : Type 0 where
+  part : Parts → Stage Parts Job
+  whole : Job → Stage Parts Job
+
+-- "An operator reading is one whose bytes begin with kind 04, accepted or refused"
+abbrev pub isOperator : List ℕ → Bool
+isOperator [] = false
+isOperator (k ∷ b) = eqb k 4
+
+pub record World : Type 1 where
+  pub Parts : Type 0
+  pub Job : Type 0
+  pub Operator : Type 0
+  pub Point : Type 0
+  -- no job record; the operator that is remembered if none was accepted
+  pub none : Parts
+  pub identity : Operator
+  -- a reading before scale, A and B are there, and one after
+  pub readPart : List ℕ → Parts → Reading (Stage Parts Job)
+  pub readOperator : List ℕ → Reading Operator
+  -- the ranks of a job's solutions are those below top that pass; the four numbers of a rank's point
+  pub test : Job → ℕ → Bool
+  pub top : ℕ
+  pub coords : ℕ → List ℤ
+  pub image : Job → Operator → Point → Bool
+  pub four : (r : ℕ) → length (coords r) ≡ 4
+  -- "The turn is: scale, region A, region B, then any number of operators"
+  pub turn-part : (b : List ℕ) (p : Parts) → isOperator b ≡ true → (r : ℕ) × (readPart b p ≡ refuse r)
+  pub turn-operator : (b : List ℕ) → isOperator b ≡ false → (r : ℕ) × (readOperator b ≡ refuse r)
+
+module _ (W : World) where
+  open World W using (Parts, Job, Operator, Point, none, identity, readPart, readOperator, test, top, coords, image)
+
+  pub data Call : Type 0 where
+    reading : List ℕ → Call
+    handOut : List ℤ → Call
+    rewind : Call
+    clear : Call
+    plain : Call
+    imageOf : Point → Call
+
+  -- a hand-out answers its count, its end, and the lent slice as it is then
+  pub data Answer : Type 0 where
+    refused : ℕ → Answer
+    taken : ℕ → Answer
+    handed : ℕ → Bool → List ℤ → Answer
+    done : Answer
+    says : Bool → Answer
+
+  -- before scale, A and B are all there, and then with the place of the walk and the remembered operator
+  pub data Session : Type 0 where
+    early : Parts → Session
+    walking : Job → Place → Operator → Session
+
+  abbrev pub Outcome : Type 0
+  Outcome = Answer × Session
+
+  -- "all solutions of the job in point order"
+  abbrev pub full : Job → List ℕ
+  full j = rest (test j) top 0
+
+  -- "its space is the length divided by 4, rounded down"
+  abbrev pub space : List ℤ → ℕ
+  space l = length l / 4
+
+  abbrev pub fresh : Session
+  fresh = early none
+
+  abbrev start : Stage Parts Job → Session
+  start (part p) = early p
+  start (whole j) = walking j (at 0) identity
+
+  abbrev pub joined : Parts → Reading (Stage Parts Job) → Outcome
+  joined p (refuse r) = (refused r, early p)
+  joined p (accept n s) = (taken n, start s)
+
+  abbrev pub remembered : Job → Place → Operator → Reading Operator → Outcome
+  remembered j w o (refuse r) = (refused r, walking j w o)
+  remembered j w o (accept n o′) = (taken n, walking j w o′)
+
+  abbrev pub given : Job → Operator → List ℤ → List ℕ → Outcome
+  given j o l left = (
+    handed (length (take (space l) left)) (isNil (drop (space l) left)) (put coords 4 (take (space l) left) l),
+    walking j (placeOf (drop (space l) left)) o,
+  )
+
+  abbrev pub step : Call → Session → Outcome
+  step clear s = (done, fresh)
+  step (reading b) (early p) = joined p (readPart b p)
+  step (handOut l) (early p) = (refused 9, early p)
+  step rewind (early p) = (refused 9, early p)
+  step plain (early p) = (refused 9, early p)
+  step (imageOf v) (early p) = (refused 9, early p)
+  step (reading b) (walking j w o) = remembered j w o (readOperator b)
+  step (handOut l) (walking j ended o) = (refused 10, walking j ended o)
+  step (handOut l) (walking j (at p) o) = given j o l (rest (test j) top p)
+  step rewind (walking j w o) = (done, walking j (at 0) o)
+  step plain (walking j w o) = (says (not (isNil (full j))), walking j w o)
+  step (imageOf v) (walking j w o) = (says (image j o v), walking j w o)
+
+  -- "The first call gets a fresh session, each later one the session that the call before it left": the answers, and the session that is left
+  abbrev pub answers : Session → List Call → List Answer
+  answers s [] = []
+  answers s (c ∷ cs) = (step c s) .0 ∷ answers ((step c s) .1) cs
+
+  abbrev pub after : Session → List Call → Session
+  after s [] = s
+  after s (c ∷ cs) = after ((step c s) .1) cs
+
+  abbrev pub isRefused : Answer → Bool
+  isRefused (refused r) = true
+  isRefused (taken n) = false
+  isRefused (handed n e l) = false
+  isRefused done = false
+  isRefused (says b) = false
+
+  -- a lent slice as a call leaves it
+  abbrev pub lent : Answer → List ℤ → List ℤ
+  lent (refused r) l = l
+  lent (taken n) l = l
+  lent (handed n e l′) l = l′
+  lent done l = l
+  lent (says b) l = l

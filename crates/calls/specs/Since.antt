@@ -1,0 +1,67 @@
+-- What was handed out since the last rewind or clearing: document 01, "A whole list of calls".
+use mathlib.Core.Bool.{Bool, false, not, cond}
+use mathlib.Core.List.{List, [], _∷_, _++_}
+use Prim.Native.Nat.{ℕ, _+_, _*_}
+use lib.IntN.{ℤ}
+use lib.ListN.{take, drop}
+use Rattle.calls.specs.Session.{World, Call, reading, handOut, rewind, clear, plain, imageOf, Answer, refused, taken, handed, done, says}
+use Rattle.calls.specs.Session.{full, space, Session, early, walking, fresh, step, after, isRefused}
+
+module _ (W : World) where
+  -- a call and its answer
+  abbrev pub Exchange : Type 0
+  Exchange = Call W × Answer W
+
+  abbrev pub exchanges : Session W → List (Call W) → List Exchange
+  exchanges s [] = []
+  exchanges s (c ∷ cs) = (c, (step W c s) .0) ∷ exchanges ((step W c s) .1) cs
+
+  abbrev pub restarts : Call W → Answer W → Bool
+  restarts (reading b) a = false
+  restarts (handOut l) a = false
+  restarts rewind a = not (isRefused W a)
+  restarts clear a = not (isRefused W a)
+  restarts plain a = false
+  restarts (imageOf v) a = false
+
+  -- ""Since the last rewind or clearing" means the last one not refused, or the start of the list": what of seen and then xs has come since then
+  abbrev pub sinceAfter : List Exchange → List Exchange → List Exchange
+  sinceAfter seen [] = seen
+  sinceAfter seen (x ∷ xs) = sinceAfter (cond (restarts (x .0) (x .1)) [] (seen ++ (x ∷ []))) xs
+
+  abbrev pub since : List (Call W) → List Exchange
+  since cs = sinceAfter [] (exchanges (fresh W) cs)
+
+  -- "those in the first 4 times count numbers of each slice, read as its hand-out returns, one hand-out after another; a refused one adds none"
+  abbrev pub written : Answer W → List ℤ
+  written (refused r) = []
+  written (taken n) = []
+  written (handed n e l) = take (4 * n) l
+  written done = []
+  written (says b) = []
+
+  abbrev pub points : List Exchange → List ℤ
+  points [] = []
+  points (x ∷ xs) = written (x .1) ++ points xs
+
+  -- "the sum of the spaces of the hand-outs not refused since then, a whole number without limit"
+  abbrev pub lentSpace : Call W → Answer W → ℕ
+  lentSpace (reading b) a = 0
+  lentSpace (handOut l) a = cond (isRefused W a) 0 (space W l)
+  lentSpace rewind a = 0
+  lentSpace clear a = 0
+  lentSpace plain a = 0
+  lentSpace (imageOf v) a = 0
+
+  abbrev pub spaces : List Exchange → ℕ
+  spaces [] = 0
+  spaces (x ∷ xs) = lentSpace (x .0) (x .1) + spaces xs
+
+  -- "With scale, A and B there, the full list is all solutions of the job in point order; until then it is empty."
+  abbrev pub fullOf : Session W → List ℕ
+  fullOf (early p) = []
+  fullOf (walking j w o) = full W j
+
+  -- what is left of it after a list of calls
+  abbrev pub leftAfter : List (Call W) → List ℕ
+  leftAfter cs = drop (spaces (since cs)) (fullOf (after W (fresh W) cs))
