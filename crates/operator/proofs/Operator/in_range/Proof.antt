@@ -1,0 +1,26 @@
+use Rattle.operator.specs.Operator.{inRange}
+use Rattle.operator.specs.Bounded.{Fits16, bits16}
+use borrow.Author.Needs.{needs}
+use Rattle.operator.proofs.Operator.in_range.Statement.{statement}
+use Rattle.operator.proofs.Operator.in_range.Tie as tie
+
+in-range-requires : tie.Need-in-range-requires
+in-range-requires c κs = search needs
+
+in-range-requires-2 : tie.Need-in-range-requires-2
+in-range-requires-2 c κs = search needs
+
+both-requires : tie.Need-both-requires
+both-requires c κs = search needs
+
+fits : (c : tie.Start) → Fits16 (c .args .self)
+fits c = search needs
+
+returns : tie.Need-returns
+unfolding inRange
+returns c =
+    let r = bits16 (fits (c .before .before .before .before .before .before .before .before .before .before .before)) in
+    cc
+
+pub in-range-spec : {M : Type 1} → statement M
+in-range-spec = tie.close (tie.spec in-range-requires in-range-requires-2 both-requires returns)

@@ -1,0 +1,84 @@
+use mathlib.Core.Path.{_≡_, refl, sym, _∙_, ap, ap₂}
+use mir.Syntax.{w64}
+use mir.Val.{SFits, toZ, ofZ}
+use mir.Facts.{toZ-ofZ}
+use Rattle.operator.specs.declared.Check.the-variants.{Special}
+use Rattle.operator.specs.declared.Inverse.the-variants.{Operator as Undo}
+use Rattle.operator.specs.Operator.{detWhole, checkOf}
+use Rattle.operator.specs.Inverse.{times, inverseOf}
+use Rattle.operator.specs.Accepted.{accepted}
+use Rattle.operator.specs.Determinant.{determinant-is}
+use Rattle.operator.specs.Adjugate.{adjugate-small}
+use borrow.Author.Needs.{needs}
+use Rattle.operator.proofs.Operator.inverse.Statement.{statement}
+use Rattle.operator.proofs.Operator.inverse.Tie as tie
+
+check-requires : tie.Need-check-requires
+check-requires c κs = search needs
+
+enum-told : tie.Need-enum-told
+enum-told c = search needs
+
+passed : (c : tie.After-enum-told) → checkOf (c .before .before .before .args .self) ≡ Special
+passed c = sym (c .before .before .check .ensures) ∙ c .enum-told .given .1
+
+adjugate-requires : tie.Need-adjugate-requires
+adjugate-requires c κs = accepted _ (passed c) .small
+
+determinant-requires : tie.Need-determinant-requires
+determinant-requires c κs = search needs
+
+determinant-is-whole : (c : tie.After-struct-told) → toZ w64 (ofZ w64 (c .before .determinant .result .p)) ≡ detWhole (c .before .before .before .before .before .before .args .self)
+determinant-is-whole c =
+    let d = c .before .determinant in
+    let h : SFits w64 (d .result .p) = search needs in
+    toZ-ofZ h ∙ ap (λ e. e .p) (d .ensures ∙ determinant-is _)
+
+times-requires : tie.Need-times-requires
+times-requires c κs =
+    let a = accepted _ (passed (c .before .before .before)) in
+    rw (determinant-is-whole c, c .before .before .adjugate .ensures) (a .unit, adjugate-small 100 _ (a .small))
+
+enum-told-2 : tie.Need-enum-told-2
+enum-told-2 c = search needs
+
+enum-told-3 : tie.Need-enum-told-3
+enum-told-3 c = search needs
+
+enum-told-4 : tie.Need-enum-told-4
+enum-told-4 c = search needs
+
+returns : tie.Need-returns
+unfolding inverseOf
+returns c =
+    let d = c .before in
+    rw (passed (d .before .before .before)) (ap Undo (c .times .ensures ∙ ap₂ times (determinant-is-whole d) (d .before .before .adjugate .ensures)))
+
+returns-2 : tie.Need-returns-2
+unfolding inverseOf
+returns-2 c = rw (← c .before .before .check .ensures, c .enum-told2 .given .1) refl
+
+returns-3 : tie.Need-returns-3
+unfolding inverseOf
+returns-3 c = rw (← c .before .before .check .ensures, c .enum-told3 .given .1) refl
+
+returns-4 : tie.Need-returns-4
+unfolding inverseOf
+returns-4 c = rw (← c .before .before .check .ensures, c .enum-told4 .given .1) refl
+
+pub inverse-spec : {M : Type 1} → statement M
+inverse-spec =
+    tie.close
+    (tie.spec
+    check-requires
+    enum-told
+    adjugate-requires
+    determinant-requires
+    times-requires
+    enum-told-2
+    enum-told-3
+    enum-told-4
+    returns
+    returns-2
+    returns-3
+    returns-4)

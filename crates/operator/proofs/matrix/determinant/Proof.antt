@@ -1,0 +1,58 @@
+use Rattle.operator.specs.Matrix.{at, determinantOf}
+use Rattle.operator.specs.Determinant.{pairs-neg}
+use Rattle.operator.specs.Bounded.{neg-bounded}
+use borrow.Author.Needs.{needs}
+use Rattle.operator.proofs.matrix.determinant.Statement.{statement}
+use Rattle.operator.proofs.matrix.determinant.Tie as tie
+
+index-1-pairs : tie.Need-index-1-pairs
+index-1-pairs c = search needs
+
+index-2-pairs : tie.Need-index-2-pairs
+index-2-pairs c = search needs
+
+index-1-pairs-2 : tie.Need-index-1-pairs-2
+index-1-pairs-2 c = search needs
+
+index-2-pairs-2 : tie.Need-index-2-pairs-2
+index-2-pairs-2 c = search needs
+
+index-1-negated : tie.Need-index-1-negated
+index-1-negated c = search needs
+
+index-2-negated : tie.Need-index-2-negated
+index-2-negated c = search needs
+
+negated-requires : tie.Need-negated-requires
+negated-requires c κs = search (needs, c .before .before .before .pre)
+
+index-1-pairs-3 : tie.Need-index-1-pairs-3
+index-1-pairs-3 c = search needs
+
+index-2-pairs-3 : tie.Need-index-2-pairs-3
+index-2-pairs-3 c = search needs
+
+pairs-requires : tie.Need-pairs-requires
+pairs-requires c κs = search (needs, c .before .before .before .before .before .pre, neg-bounded)
+
+returns : tie.Need-returns
+unfolding determinantOf
+returns c =
+    let m = c .before .before .before .before .before .before .args .t1 in
+    rw (c .before .before .negated .ensures, pairs-neg (at m 0 0) (at m 1 1) (at m 0 1) (at m 1 0)) at (c .pairs .ensures)
+
+pub determinant-spec : {M : Type 1} → statement M
+determinant-spec =
+    tie.close
+    (tie.spec
+    index-1-pairs
+    index-2-pairs
+    index-1-pairs-2
+    index-2-pairs-2
+    index-1-negated
+    index-2-negated
+    negated-requires
+    index-1-pairs-3
+    index-2-pairs-3
+    pairs-requires
+    returns)

@@ -1,0 +1,52 @@
+-- The inverse of a special grid operator, and the composition of two operators: document 01, "Operators"; 000, equations 49 to 51.
+use lib.IntN.{ℤ, negℤ, _+ℤ_, _-ℤ_, _*ℤ_}
+use Rattle.integers.specs.Parity.{half}
+use Rattle.operator.specs.declared.Operator.{Operator}
+use Rattle.operator.specs.declared.Check.{Check}
+use Rattle.operator.specs.declared.Check.the-variants.{Special, OutOfRange, OddParity, NotSpecial}
+use Rattle.operator.specs.declared.Inverse.{Inverse}
+use Rattle.operator.specs.declared.Inverse.the-variants.{Operator as Undo, Refused}
+use Rattle.ring.specs.declared.Point.{Point}
+use Rattle.operator.specs.Operator.{checkOf, detWhole, imageOf}
+
+-- the inverse for determinant 1: equations 50 and 51
+unfoldable pub adjugate : Operator → Operator
+adjugate g = record {
+  a = half (negℤ (g .ci) -ℤ g .ai -ℤ g .c -ℤ g .a);
+  b = negℤ (g .b);
+  c = half (g .ci +ℤ g .ai -ℤ g .c -ℤ g .a);
+  d = g .bi;
+  ai = half (g .ci -ℤ g .ai +ℤ g .c -ℤ g .a);
+  bi = g .d;
+  ci = half (negℤ (g .ci) +ℤ g .ai +ℤ g .c -ℤ g .a);
+  di = negℤ (g .di);
+}
+
+-- all eight numbers times k
+unfoldable pub times : ℤ → Operator → Operator
+times k g = record { a = k *ℤ g .a; b = k *ℤ g .b; c = k *ℤ g .c; d = k *ℤ g .d; ai = k *ℤ g .ai; bi = k *ℤ g .bi; ci = k *ℤ g .ci; di = k *ℤ g .di }
+
+abbrev pub answer : Check → Operator → Inverse
+answer Special h = Undo h
+answer OutOfRange h = Refused OutOfRange
+answer OddParity h = Refused OddParity
+answer NotSpecial h = Refused NotSpecial
+
+-- the inverse of an operator that passes the test: for determinant −1 all is times −1, so all is times the determinant
+unfoldable pub inverseOf : Operator → Inverse
+inverseOf g = answer (checkOf g) (times (detWhole g) (adjugate g))
+
+-- G(1) and G(i)
+abbrev pub one : Operator → Point
+one g = record { a = g .a; b = g .b; c = g .c; d = g .d }
+
+abbrev pub im : Operator → Point
+im g = record { a = g .ai; b = g .bi; c = g .ci; d = g .di }
+
+-- the operator that sends 1 to v and i to w
+abbrev pub sending : Point → Point → Operator
+sending v w = record { a = v .a; b = v .b; c = v .c; d = v .d; ai = w .a; bi = w .b; ci = w .c; di = w .d }
+
+-- G after H: what G makes of H(1) and H(i)
+unfoldable pub composedOf : Operator → Operator → Operator
+composedOf g h = sending (imageOf g (one h)) (imageOf g (im h))

@@ -1,0 +1,214 @@
+// Grid operators: document 01, "Operators". The test, the image of a point, the matrix, the inverse.
+ghost use mathlib.Core.Path.{_≡_};
+ghost use Prim.Native.Nat.{_≤_};
+ghost use lib.IntN.{natAbs, pos, _*ℤ_};
+ghost use Rattle.operator.specs.Operator.{identity, inRange, evenParity, special, checkOf, imageOf, wide};
+ghost use Rattle.operator.specs.Matrix.{matrixOf, productOf, determinantOf};
+ghost use Rattle.operator.specs.Inverse.{adjugate, times, inverseOf};
+ghost use Rattle.operator.specs.Accepted.{Small};
+use ring::Point;
+
+mod conditions;
+mod matrix;
+mod rows;
+mod sums;
+
+// G(1) as (a, b, c, d) and G(i) as document 01's (a', b', c', d').
+pub struct Operator {
+    pub a: i16,
+    pub b: i16,
+    pub c: i16,
+    pub d: i16,
+    pub ai: i16,
+    pub bi: i16,
+    pub ci: i16,
+    pub di: i16,
+}
+
+// What the test of an operator says; its number is document 01's refusal, 0 where accepted.
+pub enum Check {
+    Special,
+    OutOfRange,
+    OddParity,
+    NotSpecial,
+}
+
+// A point of four 64-bit numbers.
+pub struct WidePoint {
+    pub a: i64,
+    pub b: i64,
+    pub c: i64,
+    pub d: i64,
+}
+
+// p + q/√2.
+pub struct Entry {
+    pub p: i64,
+    pub q: i64,
+}
+
+// The inverse of a special operator, or the refusal of one that is not.
+pub enum Inverse {
+    Operator(Operator),
+    Refused(Check),
+}
+
+impl Operator {
+    // The identity.
+    pub const IDENTITY: Operator = Operator {
+        a: 0,
+        b: 0,
+        c: 0,
+        d: 1,
+        ai: 0,
+        bi: 1,
+        ci: 0,
+        di: 0,
+    };
+
+    pub fn identity() -> Operator
+        ensures { λ r. ⌜ r ≡ identity ⌝ }
+    {
+        Operator::IDENTITY
+    }
+
+    // The test: ranges, then parity, then the determinant.
+    pub fn check(self) -> Check
+        ensures { λ r. ⌜ r ≡ checkOf self ⌝ }
+    {
+        if !self.in_range() {
+            return Check::OutOfRange;
+        }
+        if !self.is_even() {
+            return Check::OddParity;
+        }
+        if !self.is_special() {
+            return Check::NotSpecial;
+        }
+        Check::Special
+    }
+
+    fn in_range(self) -> bool
+        ensures { λ r. ⌜ r ≡ inRange self ⌝ }
+    {
+        conditions::both(
+            conditions::in_range(self.a, self.b, self.c, self.d),
+            conditions::in_range(self.ai, self.bi, self.ci, self.di),
+        )
+    }
+
+    fn is_even(self) -> bool
+        ensures { λ r. ⌜ r ≡ evenParity self ⌝ }
+    {
+        conditions::both(
+            sums::is_even(self.a, self.c, self.ai, self.ci),
+            sums::is_even(self.b, self.d, self.bi, self.di),
+        )
+    }
+
+    fn is_special(self) -> bool
+        ensures { λ r. ⌜ r ≡ special self ⌝ }
+    {
+        let e = self.determinant();
+        conditions::both(
+            conditions::either(conditions::equal(e.p, 1), conditions::equal(e.p, -1)),
+            conditions::equal(e.q, 0),
+        )
+    }
+
+    // Gv, by 000, equations 45 to 48.
+    pub fn image(self, v: Point) -> WidePoint
+        ensures { λ r. ⌜ wide r ≡ imageOf self v ⌝ }
+    {
+        WidePoint {
+            a: rows::minus(self.a, self.ai, self.bi, self.di, self.b, self.d, v),
+            b: rows::plus(self.b, self.bi, self.ci, self.ai, self.c, self.a, v),
+            c: rows::plus(self.c, self.ci, self.bi, self.di, self.b, self.d, v),
+            d: rows::minus(self.d, self.di, self.ci, self.ai, self.c, self.a, v),
+        }
+    }
+
+    // The operator as a matrix: 000, Lemma 3.8.
+    pub fn matrix(self) -> [[Entry; 2]; 2]
+        ensures { λ r. ⌜ r ≡ matrixOf self ⌝ }
+    {
+        [
+            [
+                matrix::minus(self.d, self.c, self.a),
+                matrix::minus(self.di, self.ci, self.ai),
+            ],
+            [
+                matrix::plus(self.b, self.c, self.a),
+                matrix::plus(self.bi, self.ci, self.ai),
+            ],
+        ]
+    }
+
+    // The product of two operators' matrices.
+    pub fn product(self, h: Operator) -> [[Entry; 2]; 2]
+        ensures { λ r. ⌜ r ≡ productOf (matrixOf self) (matrixOf h) ⌝ }
+    {
+        matrix::product(self.matrix(), h.matrix())
+    }
+
+    // The determinant of the operator's matrix.
+    pub fn determinant(self) -> Entry
+        ensures { λ r. ⌜ r ≡ determinantOf (matrixOf self) ⌝ }
+    {
+        matrix::determinant(self.matrix())
+    }
+
+    // The inverse, for determinant 1 and −1: 000, equations 49 to 51.
+    pub fn inverse(self) -> Inverse
+        ensures { λ r. ⌜ r ≡ inverseOf self ⌝ }
+    {
+        let k = self.check();
+        match k {
+            Check::Special => Inverse::Operator(self.adjugate().times(self.determinant().p)),
+            Check::OutOfRange => Inverse::Refused(k),
+            Check::OddParity => Inverse::Refused(k),
+            Check::NotSpecial => Inverse::Refused(k),
+        }
+    }
+
+    // The inverse for determinant 1.
+    fn adjugate(self) -> Operator
+        requires { ⌜ Small 100 self ⌝ }
+        ensures { λ r. ⌜ r ≡ adjugate self ⌝ }
+    {
+        Operator {
+            a: (-sums::half_sum(self.ci, self.ai, self.c, self.a)) as i16,
+            b: -self.b,
+            c: sums::half_difference(self.ci, self.ai, self.c, self.a) as i16,
+            d: self.bi,
+            ai: sums::half_difference(self.ci, self.c, self.ai, self.a) as i16,
+            bi: self.d,
+            ci: sums::half_difference(self.ai, self.c, self.ci, self.a) as i16,
+            di: -self.di,
+        }
+    }
+
+    // All eight numbers times k, which is 1 or −1.
+    fn times(self, k: i64) -> Operator
+        requires { ⌜ (k *ℤ k ≡ pos 1) × Small 200 self ⌝ }
+        ensures { λ r. ⌜ r ≡ times k self ⌝ }
+    {
+        Operator {
+            a: scaled(k, self.a),
+            b: scaled(k, self.b),
+            c: scaled(k, self.c),
+            d: scaled(k, self.d),
+            ai: scaled(k, self.ai),
+            bi: scaled(k, self.bi),
+            ci: scaled(k, self.ci),
+            di: scaled(k, self.di),
+        }
+    }
+}
+
+fn scaled(k: i64, x: i16) -> i16
+    requires { ⌜ (k *ℤ k ≡ pos 1) × (natAbs x ≤ 200) ⌝ }
+    ensures { λ r. ⌜ r ≡ k *ℤ x ⌝ }
+{
+    (k * x as i64) as i16
+}

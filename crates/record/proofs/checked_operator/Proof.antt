@@ -1,0 +1,47 @@
+use mathlib.Core.Path.{_≡_, refl}
+use Rattle.operator.specs.Operator.{checkOf}
+use Rattle.operator.specs.declared.Check.the-variants.{Special, OutOfRange, OddParity, NotSpecial}
+use borrow.Author.Needs.{needs}
+use Rattle.record.proofs.checked_operator.Statement.{statement}
+use Rattle.record.proofs.checked_operator.Tie as tie
+
+check-requires : tie.Need-check-requires
+check-requires c κs = search needs
+
+enum-told : tie.Need-enum-told
+enum-told c = search needs
+
+enum-told-2 : tie.Need-enum-told-2
+enum-told-2 c = search needs
+
+enum-told-3 : tie.Need-enum-told-3
+enum-told-3 c = search needs
+
+enum-told-4 : tie.Need-enum-told-4
+enum-told-4 c = search needs
+
+returns : tie.Need-returns
+returns c = let e : checkOf (c .before .before .before .args .g) ≡ Special = cc in rw e refl
+
+returns-2 : tie.Need-returns-2
+returns-2 c = let e : checkOf (c .before .before .before .args .g) ≡ OutOfRange = cc in rw e refl
+
+returns-3 : tie.Need-returns-3
+returns-3 c = let e : checkOf (c .before .before .before .args .g) ≡ OddParity = cc in rw e refl
+
+returns-4 : tie.Need-returns-4
+returns-4 c = let e : checkOf (c .before .before .before .args .g) ≡ NotSpecial = cc in rw e refl
+
+pub checked-operator-spec : {M : Type 1} → statement M
+checked-operator-spec =
+    tie.close
+    (tie.spec
+    check-requires
+    enum-told
+    enum-told-2
+    enum-told-3
+    enum-told-4
+    returns
+    returns-2
+    returns-3
+    returns-4)

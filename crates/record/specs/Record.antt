@@ -1,0 +1,222 @@
+-- One reading: document 01, "Job records" and "Refusals that come from the input". It takes one record from the front of the bytes, or refuses it.
+use mathlib.Core.Path.{_≡_, refl}
+use mathlib.Core.Bool.{Bool, true, false}
+use mathlib.Core.List.{List, [], _∷_}
+use Prim.Native.Nat.{ℕ, _-_, _<_, _≤_}
+use native.Mathlib.Omega.{arith}
+use lib.Dec.{eqb, leb, ltb}
+use lib.ListN.{length, drop, getD, length-drop}
+use borrow.Author.Tests.{ne-eqb, lt-ltb, le-ltb, le-leb, lt-leb}
+use Rattle.region.specs.declared.Rectangle.{Rectangle}
+use Rattle.region.specs.declared.Ellipse.{Ellipse}
+use Rattle.region.specs.declared.Region.{Region}
+use Rattle.region.specs.declared.Region.the-variants as Shape
+use Rattle.region.specs.declared.Check.the-variants as R
+use Rattle.region.specs.declared.Check as RegionCheck
+use Rattle.region.specs.Region as Reg
+use Rattle.operator.specs.declared.Operator.{Operator}
+use Rattle.operator.specs.declared.Check.the-variants as O
+use Rattle.operator.specs.declared.Check as OperatorCheck
+use Rattle.operator.specs.Operator as Op
+use Rattle.record.specs.declared.Kind.{Kind}
+use Rattle.record.specs.declared.Kind.the-variants as K
+use Rattle.record.specs.declared.Turn.{Turn}
+use Rattle.record.specs.declared.Turn.the-variants as T
+use Rattle.record.specs.declared.Record.{Record}
+use Rattle.record.specs.declared.Record.the-variants as Rec
+use Rattle.record.specs.declared.Refusal.{Refusal}
+use Rattle.record.specs.declared.Refusal.the-variants.{NoKind, UnknownKind, Short, OutOfRange, NotPositive, OddParity, NotSpecial, OutOfTurn, NoJob, Ended}
+use Rattle.record.specs.declared.Reading.{Reading}
+use Rattle.record.specs.declared.Reading.the-variants.{Accepted, Refused}
+use Rattle.record.specs.Field.{unsignedAt, signedAt, one}
+
+-- document 01's number of each refusal
+abbrev pub number : Refusal → ℕ
+number NoKind = 1
+number UnknownKind = 2
+number Short = 3
+number OutOfRange = 4
+number NotPositive = 5
+number OddParity = 6
+number NotSpecial = 7
+number OutOfTurn = 8
+number NoJob = 9
+number Ended = 10
+
+-- ---- kinds, with the length of the body
+abbrev pub pickKind : Bool → Kind → Kind → Kind
+pickKind true x y = x
+pickKind false x y = y
+
+unfoldable pub kindOf : ℕ → Kind
+kindOf b = pickKind (eqb b 1) K.Scale (pickKind (eqb b 2) K.Rectangle (pickKind (eqb b 3) K.Ellipse (pickKind (eqb b 4) K.Operator K.Unknown)))
+
+pub kind-1 : (b : ℕ) → b ≡ 1 → kindOf b ≡ K.Scale
+unfolding kindOf
+kind-1 b e = rw e refl
+
+pub kind-2 : (b : ℕ) → b ≡ 2 → kindOf b ≡ K.Rectangle
+unfolding kindOf
+kind-2 b e = rw e refl
+
+pub kind-3 : (b : ℕ) → b ≡ 3 → kindOf b ≡ K.Ellipse
+unfolding kindOf
+kind-3 b e = rw e refl
+
+pub kind-4 : (b : ℕ) → b ≡ 4 → kindOf b ≡ K.Operator
+unfolding kindOf
+kind-4 b e = rw e refl
+
+pub kind-unknown : (b : ℕ) → (b ≡ 1 → ⊥) → (b ≡ 2 → ⊥) → (b ≡ 3 → ⊥) → (b ≡ 4 → ⊥) → kindOf b ≡ K.Unknown
+unfolding kindOf
+kind-unknown b e f g h = rw (ne-eqb b 1 e, ne-eqb b 2 f, ne-eqb b 3 g, ne-eqb b 4 h) refl
+
+abbrev pub bodyLength : Kind → ℕ
+bodyLength K.Scale = 1
+bodyLength K.Rectangle = 18
+bodyLength K.Ellipse = 20
+bodyLength K.Operator = 16
+bodyLength K.Unknown = 0
+
+-- the turn is: scale, region A, region B, then any number of operators
+abbrev pub isScale : Turn → Bool
+isScale T.Scale = true
+isScale T.First = false
+isScale T.Second = false
+isScale T.Operators = false
+
+abbrev pub isRegion : Turn → Bool
+isRegion T.Scale = false
+isRegion T.First = true
+isRegion T.Second = true
+isRegion T.Operators = false
+
+abbrev pub isOperators : Turn → Bool
+isOperators T.Scale = false
+isOperators T.First = false
+isOperators T.Second = false
+isOperators T.Operators = true
+
+abbrev pub inTurn : Kind → Turn → Bool
+inTurn K.Scale t = isScale t
+inTurn K.Rectangle t = isRegion t
+inTurn K.Ellipse t = isRegion t
+inTurn K.Operator t = isOperators t
+inTurn K.Unknown t = false
+
+-- ---- bodies
+abbrev pub pick : Bool → Reading → Reading → Reading
+pick true x y = x
+pick false x y = y
+
+-- 01: scale k, 0 to 12
+unfoldable pub scaleOf : List ℕ → Reading
+scaleOf s = pick (leb (unsignedAt 1 s 0) Reg.topScale) (Accepted (Rec.Scale (unsignedAt 1 s 0)) 2) (Refused OutOfRange)
+
+-- 02: n, then xl, xh, yl, yh
+unfoldable pub rectangleOf : List ℕ → Rectangle
+rectangleOf s = record { n = unsignedAt 2 s 0; xl = signedAt 4 s 2; xh = signedAt 4 s 6; yl = signedAt 4 s 10; yh = signedAt 4 s 14 }
+
+-- 03: n, cx, cy, P, Q, R, S
+unfoldable pub ellipseOf : List ℕ → Ellipse
+ellipseOf s = record { n = unsignedAt 2 s 0; cx = signedAt 4 s 2; cy = signedAt 4 s 6; p = unsignedAt 2 s 10; q = signedAt 2 s 12; r = unsignedAt 2 s 14; s = unsignedAt 4 s 16 }
+
+-- 04: G(1) as a, b, c, d, then G(i) as a', b', c', d'
+unfoldable pub operatorOf : List ℕ → Operator
+operatorOf s = record {
+  a = signedAt 2 s 0;
+  b = signedAt 2 s 2;
+  c = signedAt 2 s 4;
+  d = signedAt 2 s 6;
+  ai = signedAt 2 s 8;
+  bi = signedAt 2 s 10;
+  ci = signedAt 2 s 12;
+  di = signedAt 2 s 14;
+}
+
+-- what the check of a region, and of an operator, makes of a reading that took n bytes
+abbrev pub regionReading : RegionCheck.Check → Region → ℕ → Reading
+regionReading R.Accepted r n = Accepted (Rec.Region r) n
+regionReading R.OutOfRange r n = Refused OutOfRange
+regionReading R.NotPositive r n = Refused NotPositive
+
+abbrev pub operatorReading : OperatorCheck.Check → Operator → ℕ → Reading
+operatorReading O.Special g n = Accepted (Rec.Operator g) n
+operatorReading O.OutOfRange g n = Refused OutOfRange
+operatorReading O.OddParity g n = Refused OddParity
+operatorReading O.NotSpecial g n = Refused NotSpecial
+
+unfoldable pub bodyOf : Kind → List ℕ → Reading
+bodyOf K.Scale s = scaleOf s
+bodyOf K.Rectangle s = let r = Shape.Rectangle (rectangleOf s) in regionReading (Reg.checkOf r) r 19
+bodyOf K.Ellipse s = let r = Shape.Ellipse (ellipseOf s) in regionReading (Reg.checkOf r) r 21
+bodyOf K.Operator s = let g = operatorOf s in operatorReading (Op.checkOf g) g 17
+bodyOf K.Unknown s = Refused UnknownKind
+
+-- ---- the order of refusals: 1, 2, 8, 3, then those of the body, 4, 5, 6, 7
+abbrev pub isKnown : Kind → Bool
+isKnown K.Scale = true
+isKnown K.Rectangle = true
+isKnown K.Ellipse = true
+isKnown K.Operator = true
+isKnown K.Unknown = false
+
+abbrev pub kindReading : Kind → List ℕ → Turn → Reading
+kindReading k body t = pick (isKnown k) (pick (inTurn k t) (pick (ltb (length body) (bodyLength k)) (Refused Short) (bodyOf k body)) (Refused OutOfTurn)) (Refused UnknownKind)
+
+unfoldable pub readingOf : List ℕ → Turn → Reading
+readingOf [] t = Refused NoKind
+readingOf (b ∷ body) t = kindReading (kindOf b) body t
+
+-- ---- what the code meets, step by step
+pub scale-in : (s : List ℕ) → getD s 0 0 ≤ 12 → scaleOf s ≡ Accepted (Rec.Scale (getD s 0 0)) 2
+unfolding scaleOf
+scale-in s h = rw (one s 0, le-leb (getD s 0 0) 12 h) refl
+
+pub scale-out : (s : List ℕ) → 12 < getD s 0 0 → scaleOf s ≡ Refused OutOfRange
+unfolding scaleOf
+scale-out s h = rw (one s 0, lt-leb (getD s 0 0) 12 h) refl
+
+module _ (k : Kind) (s : List ℕ) where
+  pub body-scale : k ≡ K.Scale → bodyOf k s ≡ scaleOf s
+  unfolding bodyOf
+  body-scale e = rw e refl
+
+  pub body-rectangle : k ≡ K.Rectangle → (r : Rectangle) → r ≡ rectangleOf s → bodyOf k s ≡ regionReading (Reg.checkOf (Shape.Rectangle r)) (Shape.Rectangle r) 19
+  unfolding bodyOf
+  body-rectangle e r f = rw (e, f) refl
+
+  pub body-ellipse : k ≡ K.Ellipse → (r : Ellipse) → r ≡ ellipseOf s → bodyOf k s ≡ regionReading (Reg.checkOf (Shape.Ellipse r)) (Shape.Ellipse r) 21
+  unfolding bodyOf
+  body-ellipse e r f = rw (e, f) refl
+
+  pub body-operator : k ≡ K.Operator → (g : Operator) → g ≡ operatorOf s → bodyOf k s ≡ operatorReading (Op.checkOf g) g 17
+  unfolding bodyOf
+  body-operator e g f = rw (e, f) refl
+
+  pub body-unknown : k ≡ K.Unknown → bodyOf k s ≡ Refused UnknownKind
+  unfolding bodyOf
+  body-unknown e = rw e refl
+
+pub reading-none : (l : List ℕ) (t : Turn) → length l ≡ 0 → readingOf l t ≡ Refused NoKind
+unfolding readingOf
+reading-none [] t h = refl
+reading-none (b ∷ l) t h = absurd (omega arith)
+
+reading-kind : (l : List ℕ) (t : Turn) → (length l ≡ 0 → ⊥) → readingOf l t ≡ kindReading (kindOf (getD l 0 0)) (drop 1 l) t
+unfolding readingOf
+reading-kind [] t h = absurd (h refl)
+reading-kind (b ∷ l) t h = refl
+
+module _ (l : List ℕ) (t : Turn) (k : Kind) (some : length l ≡ 0 → ⊥) (e : k ≡ kindOf (getD l 0 0)) where
+  pub reading-unknown : isKnown k ≡ false → readingOf l t ≡ Refused UnknownKind
+  reading-unknown h = rw (reading-kind l t some, ← e, h) refl
+
+  pub reading-out-of-turn : isKnown k ≡ true → inTurn k t ≡ false → readingOf l t ≡ Refused OutOfTurn
+  reading-out-of-turn h i = rw (reading-kind l t some, ← e, h, i) refl
+
+  pub reading-short : isKnown k ≡ true → inTurn k t ≡ true → length l - 1 < bodyLength k → readingOf l t ≡ Refused Short
+  reading-short h i g = rw (reading-kind l t some, ← e, h, i, length-drop 1 l, lt-ltb (length l - 1) (bodyLength k) g) refl
+
+  pub reading-body : isKnown k ≡ true → inTurn k t ≡ true → bodyLength k ≤ length l - 1 → readingOf l t ≡ bodyOf k (drop 1 l)
+  reading-body h i g = rw (reading-kind l t some, ← e, h, i, length-drop 1 l, le-ltb (length l - 1) (bodyLength k) g) refl

@@ -1,0 +1,254 @@
+// Job records: document 01, "Job records". One reading takes one record from the front of the bytes given, or refuses it.
+ghost use mathlib.Core.Path.{_≡_};
+ghost use mathlib.Core.Bool.{Bool, true, false};
+ghost use Prim.Native.Nat.{_≤_, _<_};
+ghost use lib.ListN.{length};
+ghost use Rattle.region.specs.Region.{checkOf as regionCheck};
+ghost use Rattle.operator.specs.Operator.{checkOf as operatorCheck};
+ghost use Rattle.record.specs.Record.{readingOf, kindOf, isKnown, inTurn, isScale, isRegion, isOperators, bodyLength, bodyOf, scaleOf, rectangleOf, ellipseOf, operatorOf, regionReading, operatorReading};
+use operator::Operator;
+use region::Ellipse;
+use region::Rectangle;
+use region::Region;
+
+mod field;
+
+// What the first byte of a record says.
+pub enum Kind {
+    Scale,
+    Rectangle,
+    Ellipse,
+    Operator,
+    Unknown,
+}
+
+// What a job waits for.
+pub enum Turn {
+    Scale,
+    First,
+    Second,
+    Operators,
+}
+
+pub enum Record {
+    Scale(u8),
+    Region(Region),
+    Operator(Operator),
+}
+
+// Document 01's refusals; their numbers are `number` of specs/Record.
+pub enum Refusal {
+    NoKind,
+    UnknownKind,
+    Short,
+    OutOfRange,
+    NotPositive,
+    OddParity,
+    NotSpecial,
+    OutOfTurn,
+    NoJob,
+    Ended,
+}
+
+// A record and the bytes it took, or the refusal, which takes none.
+pub enum Reading {
+    Accepted(Record, usize),
+    Refused(Refusal),
+}
+
+// One reading.
+pub fn read(bytes: &[u8], turn: Turn) -> Reading
+    ensures { λ r. ⌜ r ≡ readingOf (now (bytes .entry)) turn ⌝ }
+{
+    if bytes.len() == 0 {
+        return Reading::Refused(Refusal::NoKind);
+    }
+    let kind = kind_of(bytes[0]);
+    let known = is_known(kind);
+    if !known {
+        return Reading::Refused(Refusal::UnknownKind);
+    }
+    let fits = in_turn(kind, turn);
+    if !fits {
+        return Reading::Refused(Refusal::OutOfTurn);
+    }
+    if bytes.len() - 1 < body_length(kind) {
+        return Reading::Refused(Refusal::Short);
+    }
+    body(kind, &bytes[1..])
+}
+
+fn kind_of(b: u8) -> Kind
+    ensures { λ r. ⌜ r ≡ kindOf b ⌝ }
+{
+    match b {
+        1 => Kind::Scale,
+        2 => Kind::Rectangle,
+        3 => Kind::Ellipse,
+        4 => Kind::Operator,
+        _ => Kind::Unknown,
+    }
+}
+
+fn is_known(kind: Kind) -> bool
+    ensures { λ r. ⌜ r ≡ isKnown kind ⌝ }
+{
+    match kind {
+        Kind::Scale => true,
+        Kind::Rectangle => true,
+        Kind::Ellipse => true,
+        Kind::Operator => true,
+        Kind::Unknown => false,
+    }
+}
+
+// Whether a kind stands in its turn.
+fn in_turn(kind: Kind, turn: Turn) -> bool
+    ensures { λ r. ⌜ r ≡ inTurn kind turn ⌝ }
+{
+    match kind {
+        Kind::Scale => is_scale(turn),
+        Kind::Rectangle => is_region(turn),
+        Kind::Ellipse => is_region(turn),
+        Kind::Operator => is_operators(turn),
+        Kind::Unknown => false,
+    }
+}
+
+fn is_scale(turn: Turn) -> bool
+    ensures { λ r. ⌜ r ≡ isScale turn ⌝ }
+{
+    match turn {
+        Turn::Scale => true,
+        Turn::First => false,
+        Turn::Second => false,
+        Turn::Operators => false,
+    }
+}
+
+fn is_region(turn: Turn) -> bool
+    ensures { λ r. ⌜ r ≡ isRegion turn ⌝ }
+{
+    match turn {
+        Turn::Scale => false,
+        Turn::First => true,
+        Turn::Second => true,
+        Turn::Operators => false,
+    }
+}
+
+fn is_operators(turn: Turn) -> bool
+    ensures { λ r. ⌜ r ≡ isOperators turn ⌝ }
+{
+    match turn {
+        Turn::Scale => false,
+        Turn::First => false,
+        Turn::Second => false,
+        Turn::Operators => true,
+    }
+}
+
+fn body_length(kind: Kind) -> usize
+    ensures { λ r. ⌜ r ≡ bodyLength kind ⌝ }
+{
+    match kind {
+        Kind::Scale => 1,
+        Kind::Rectangle => 18,
+        Kind::Ellipse => 20,
+        Kind::Operator => 16,
+        Kind::Unknown => 0,
+    }
+}
+
+// A record's body, which is all there.
+fn body(kind: Kind, s: &[u8]) -> Reading
+    requires { ⌜ bodyLength kind ≤ length (now s) ⌝ }
+    ensures { λ r. ⌜ r ≡ bodyOf kind (now (s .entry)) ⌝ }
+{
+    match kind {
+        Kind::Scale => scale_at(s),
+        Kind::Rectangle => checked_region(Region::Rectangle(rectangle_at(s)), 19),
+        Kind::Ellipse => checked_region(Region::Ellipse(ellipse_at(s)), 21),
+        Kind::Operator => checked_operator(operator_at(s), 17),
+        Kind::Unknown => Reading::Refused(Refusal::UnknownKind),
+    }
+}
+
+fn scale_at(s: &[u8]) -> Reading
+    requires { ⌜ 1 ≤ length (now s) ⌝ }
+    ensures { λ r. ⌜ r ≡ scaleOf (now (s .entry)) ⌝ }
+{
+    let k = s[0];
+    if k <= 12 {
+        Reading::Accepted(Record::Scale(k), 2)
+    } else {
+        Reading::Refused(Refusal::OutOfRange)
+    }
+}
+
+fn rectangle_at(s: &[u8]) -> Rectangle
+    requires { ⌜ 18 ≤ length (now s) ⌝ }
+    ensures { λ r. ⌜ r ≡ rectangleOf (now (s .entry)) ⌝ }
+{
+    Rectangle {
+        n: field::u16_at(s, 0),
+        xl: field::i32_at(s, 2),
+        xh: field::i32_at(s, 6),
+        yl: field::i32_at(s, 10),
+        yh: field::i32_at(s, 14),
+    }
+}
+
+fn ellipse_at(s: &[u8]) -> Ellipse
+    requires { ⌜ 20 ≤ length (now s) ⌝ }
+    ensures { λ r. ⌜ r ≡ ellipseOf (now (s .entry)) ⌝ }
+{
+    Ellipse {
+        n: field::u16_at(s, 0),
+        cx: field::i32_at(s, 2),
+        cy: field::i32_at(s, 6),
+        p: field::u16_at(s, 10),
+        q: field::i16_at(s, 12),
+        r: field::u16_at(s, 14),
+        s: field::u32_at(s, 16),
+    }
+}
+
+fn operator_at(s: &[u8]) -> Operator
+    requires { ⌜ 16 ≤ length (now s) ⌝ }
+    ensures { λ r. ⌜ r ≡ operatorOf (now (s .entry)) ⌝ }
+{
+    Operator {
+        a: field::i16_at(s, 0),
+        b: field::i16_at(s, 2),
+        c: field::i16_at(s, 4),
+        d: field::i16_at(s, 6),
+        ai: field::i16_at(s, 8),
+        bi: field::i16_at(s, 10),
+        ci: field::i16_at(s, 12),
+        di: field::i16_at(s, 14),
+    }
+}
+
+fn checked_region(r: Region, taken: usize) -> Reading
+    ensures { λ t. ⌜ t ≡ regionReading (regionCheck r) r taken ⌝ }
+{
+    let c = r.check();
+    match c {
+        region::Check::Accepted => Reading::Accepted(Record::Region(r), taken),
+        region::Check::OutOfRange => Reading::Refused(Refusal::OutOfRange),
+        region::Check::NotPositive => Reading::Refused(Refusal::NotPositive),
+    }
+}
+
+fn checked_operator(g: Operator, taken: usize) -> Reading
+    ensures { λ t. ⌜ t ≡ operatorReading (operatorCheck g) g taken ⌝ }
+{
+    let c = g.check();
+    match c {
+        operator::Check::Special => Reading::Accepted(Record::Operator(g), taken),
+        operator::Check::OutOfRange => Reading::Refused(Refusal::OutOfRange),
+        operator::Check::OddParity => Reading::Refused(Refusal::OddParity),
+        operator::Check::NotSpecial => Reading::Refused(Refusal::NotSpecial),
+    }
+}
