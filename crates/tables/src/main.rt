@@ -2,6 +2,7 @@
 ghost use Rattle.io.specs.Counts.{Counts};
 
 mod exponent;
+mod operators;
 mod row;
 mod sign;
 
@@ -14,6 +15,10 @@ fn main() {
     report(b"sign", sign::compare(&space[..n]));
     let n = load(b"exponent.txt", &mut space);
     report(b"exponent", exponent::compare(&space[..n]));
+    let n = load(b"op.txt", &mut space);
+    report(b"op", operators::compare_checks(&space[..n]));
+    let n = load(b"apply.txt", &mut space);
+    report(b"apply", operators::compare_images(&space[..n]));
 }
 
 // The file's bytes at the start of space, and how many; none where it cannot be opened.

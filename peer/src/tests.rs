@@ -1,0 +1,118 @@
+//! The points worked by hand, and the loops against a plain cube.
+
+use std::ops::ControlFlow;
+
+use crate::generate::Generator;
+use crate::job::{self, Job, Region, Shape};
+use crate::member::{Membership, Point};
+use crate::root2::{floor_root2, sign};
+use crate::walk::Walk;
+
+fn solutions(job: &Job) -> Vec<Point> {
+    let mut found = Vec::new();
+    Walk::new(job).run(|v| {
+        found.push(v);
+        ControlFlow::Continue(())
+    });
+    found
+}
+
+fn rectangle(n: i64, [xl, xh]: [i64; 2], [yl, yh]: [i64; 2]) -> Region {
+    Region { n, shape: Shape::Rectangle { xl, xh, yl, yh } }
+}
+
+fn point(a: i64, b: i64, c: i64, d: i64) -> Point {
+    Point { a, b, c, d }
+}
+
+#[test]
+fn signs() {
+    assert_eq!([sign(-7, 5), sign(-99, 70), sign(0, 0)], [1, -1, 0]);
+    let least = i64::MIN.into();
+    assert_eq!(sign(least, 6_521_908_912_666_391_106), -1);
+    assert_eq!(sign(least, 6_521_908_912_666_391_107), 1);
+}
+
+#[test]
+fn wide_signs() {
+    // Powers of 1 + √2, of which √2 times the second part comes ever closer
+    // to the first, now from above and now from below.
+    let (mut p, mut q) = (1_i128, 1_i128);
+    for j in 1..95 {
+        let expected = if j % 2 == 0 { 1 } else { -1 };
+        assert_eq!(sign(p, -q), expected);
+        assert_eq!(sign(-p, q), -expected);
+        (p, q) = (p + 2 * q, p + q);
+    }
+}
+
+#[test]
+fn floors() {
+    assert_eq!([-2, -1, 0, 1, 2, 70].map(floor_root2), [-3, -2, 0, 1, 2, 98]);
+}
+
+#[test]
+fn rectangles() {
+    let job = |k, a, b| Job { k, a, b };
+    let minus = rectangle(1, [-2, -1], [0, 0]);
+    let plus = rectangle(1, [1, 2], [0, 0]);
+    assert_eq!(solutions(&job(0, rectangle(12, [16, 17], [0, 0]), minus)), [point(-1, 0, 1, 0)]);
+    assert_eq!(solutions(&job(0, rectangle(5, [6, 7], [0, 0]), minus)), []);
+    assert_eq!(solutions(&job(1, plus, minus)), [point(0, 0, 0, 2)]);
+    assert_eq!(solutions(&job(1, plus, plus)), [point(-2, 0, 2, 0), point(-1, 0, 1, 0)]);
+}
+
+#[test]
+fn unit_disks() {
+    let disk = Region { n: 1, shape: Shape::Ellipse { cx: 0, cy: 0, p: 1, q: 0, r: 1, s: 1 } };
+    let counts = [0, 1, 2].map(|k| solutions(&Job { k, a: disk, b: disk }).len());
+    assert_eq!(counts, [9, 17, 57]);
+}
+
+#[test]
+fn operators() {
+    assert_eq!(job::check_operator(&[0, 0, 0, 1, -1, 1, 1, 0]), Ok(()));
+    assert_eq!(job::check_operator(&[0, 0, 0, 1, 0, 1, 0, 2]), Ok(()));
+    assert_eq!(job::check_operator(&[0, 0, 0, 1, 0, 1, 0, 1]), Err(6));
+    assert_eq!(job::check_operator(&[0, 0, 0, 2, 0, 2, 0, 0]), Err(7));
+    assert_eq!(job::check_operator(&[-1, 0, 1, 1, 1, 1, 1, 0]), Err(7));
+}
+
+/// At least the greatest |x| or |y| of a region.
+fn extent(region: &Region) -> i64 {
+    let reach = match region.shape {
+        Shape::Rectangle { xl, xh, yl, yh } => [xl, xh, yl, yh].map(i64::abs).into_iter().max(),
+        Shape::Ellipse { cx, cy, p, q, r, s } => {
+            Some(cx.abs().max(cy.abs()) + (s * p.max(r) / (p * r - q * q)).isqrt() + 1)
+        }
+    };
+    reach.unwrap_or(0) / region.n + 1
+}
+
+#[test]
+fn loops_against_a_cube() {
+    let mut generator = Generator::new(1);
+    let mut compared = 0;
+    while compared < 60 {
+        let (name, bytes) = generator.job();
+        let Ok(job) = job::read(&bytes) else { continue };
+        // Each coordinate is within √2^(k+1)·(the extents' sum)/2.
+        let m = ((extent(&job.a) + extent(&job.b)) << (job.k + 1).div_ceil(2)) / 2 + 1;
+        if m > 7 {
+            continue;
+        }
+        let membership = Membership::new(&job);
+        let side = -m..=m;
+        let mut expected = Vec::new();
+        for a in side.clone() {
+            for b in side.clone() {
+                for c in side.clone() {
+                    let line = side.clone().map(|d| point(a, b, c, d));
+                    expected.extend(line.filter(|&v| membership.holds(v)));
+                }
+            }
+        }
+        assert_eq!(solutions(&job), expected, "{name}: {job:?}");
+        compared += 1;
+    }
+}
