@@ -2,6 +2,7 @@
 ghost use Rattle.io.specs.Counts.{Counts};
 
 mod exponent;
+mod lines;
 mod operators;
 mod row;
 mod sign;
@@ -19,6 +20,8 @@ fn main() {
     report(b"op", operators::compare_checks(&space[..n]));
     let n = load(b"apply.txt", &mut space);
     report(b"apply", operators::compare_images(&space[..n]));
+    let n = load(b"line.txt", &mut space);
+    report(b"line", lines::compare(&space[..n]));
 }
 
 // The file's bytes at the start of space, and how many; none where it cannot be opened.

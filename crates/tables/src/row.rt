@@ -9,10 +9,11 @@ pub struct Tally {
     pub different: u64,
 }
 
-// The first 32 numbers of a line, how many numbers it has, and the place after the line.
+// The first 64 numbers of a line, how many there are, how many of them stood before each of the first four bars, and the place after the line.
 pub struct Row {
-    pub numbers: [i64; 32],
+    pub numbers: [i64; 64],
     pub count: usize,
+    pub before: [usize; 4],
     pub next: usize,
 }
 
@@ -40,18 +41,27 @@ impl Tally {
 // The numbers of the line at `at`, whatever stands between them.
 pub fn row_at(s: &[u8], at: usize) -> Row {
     let end = text::line_end(s, at);
-    let mut numbers = [0i64; 32];
+    let mut numbers = [0i64; 64];
     let mut count = 0;
+    let mut before = [0usize; 4];
+    let mut bars = 0;
     let mut i = at;
     while i < end {
         let mut next = i + 1;
         if let Number::Value(value, after) = text::number_at(s, i) {
-            if count < 32 {
+            if count < 64 {
                 numbers[count] = value;
                 count += 1;
             }
             if i < after {
                 next = after;
+            }
+        } else if i < s.len() {
+            if s[i] == b'|' {
+                if bars < 4 {
+                    before[bars] = count;
+                    bars += 1;
+                }
             }
         }
         i = next;
@@ -59,6 +69,7 @@ pub fn row_at(s: &[u8], at: usize) -> Row {
     Row {
         numbers,
         count,
+        before,
         next: i,
     }
 }

@@ -11,8 +11,13 @@ use Rattle.integers.specs.Order.{≼-antisym}
 use Rattle.ring.specs.declared.Point.{Point}
 use Rattle.ring.specs.Sign.{signOf, signOf-is, bySigns, number}
 use Rattle.ring.specs.Point.{ext}
+use Rattle.ranks.specs.Handed.{flat}
+use Rattle.ranks.specs.Digits.{pair}
+use Rattle.line.specs.Line.{pairOf, inRange, full}
+use Rattle.line.specs.Worked as example
 use Rattle.operator.specs.declared.Operator.{Operator}
-use Rattle.operator.specs.Operator.{refusal, checkOf, inRange, evenParity, special, detWhole, detRoot, imageOf}
+use Rattle.operator.specs.Operator as op
+use Rattle.operator.specs.Operator.{refusal, checkOf, evenParity, special, detWhole, detRoot, imageOf}
 
 pub data Row : Type 0 where
   -- the sign of p + q√2, as −1, 0 or 1
@@ -21,12 +26,15 @@ pub data Row : Type 0 where
   operator : Operator → ℕ → Row
   -- what an operator makes of a point
   image : Operator → Point → Point → Row
+  -- the pairs a, b with a + b√2 in [0, h] and a − b√2 in [−1, 1], one after the other
+  line : ℤ → List ℤ → Row
 
 -- ---- what a row claims
 abbrev pub Claim : Row → Type 0
 Claim (sign p q s) = number (signOf p q) ≡ s
 Claim (operator g n) = refusal (checkOf g) ≡ n
 Claim (image g v w) = imageOf g v ≡ w
+Claim (line h l) = flat pairOf (full (example.upTo h) example.unit) ≡ l
 
 -- ---- the test, on what computes
 abbrev both : Bool → Bool → Bool
@@ -39,10 +47,17 @@ same x y = both (leZ x y) (leZ y x)
 abbrev samePoint : Point → Point → Bool
 samePoint v w = both (both (same (v .a) (w .a)) (same (v .b) (w .b))) (both (same (v .c) (w .c)) (same (v .d) (w .d)))
 
+abbrev sameList : List ℤ → List ℤ → Bool
+sameList [] [] = true
+sameList [] (y ∷ l) = false
+sameList (x ∷ k) [] = false
+sameList (x ∷ k) (y ∷ l) = both (same x y) (sameList k l)
+
 abbrev right : Row → Bool
 right (sign p q s) = same (number (bySigns (nonNeg p) (nonNeg q) (natAbs p * natAbs p) (2 * (natAbs q * natAbs q)))) s
 right (operator g n) = eqb (refusal (checkOf g)) n
 right (image g v w) = samePoint (imageOf g v) w
+right (line h l) = both (example.boxed h) (sameList (example.listing h) l)
 
 abbrev every : List Row → Bool
 every [] = true
@@ -67,10 +82,22 @@ same-point v w t =
     ext (same-is (v .a) (w .a) (both-left (same (v .a) (w .a)) (same (v .b) (w .b)) ab)) (same-is (v .b) (w .b) (both-right (same (v .a) (w .a)) (same (v .b) (w .b)) ab))
     (same-is (v .c) (w .c) (both-left (same (v .c) (w .c)) (same (v .d) (w .d)) cd)) (same-is (v .d) (w .d) (both-right (same (v .c) (w .c)) (same (v .d) (w .d)) cd))
 
+same-list : (k l : List ℤ) → T (sameList k l) → k ≡ l
+same-list [] [] t = refl
+same-list [] (y ∷ l) t = absurd t
+same-list (x ∷ k) [] t = absurd t
+same-list (x ∷ k) (y ∷ l) t = ap (λ (z : ℤ). z ∷ k) (same-is x y (both-left (same x y) (sameList k l) t)) ∙ ap (λ (m : List ℤ). y ∷ m) (same-list k l (both-right (same x y) (sameList k l) t))
+
+is-true : (b : Bool) → T b → b ≡ true
+is-true true t = refl
+is-true false t = absurd t
+
 claim : (r : Row) → T (right r) → Claim r
 claim (sign p q s) t = ap number (signOf-is p q) ∙ same-is _ s t
 claim (operator g n) t = eqb→eq (refusal (checkOf g)) n t
 claim (image g v w) t = same-point (imageOf g v) w t
+claim (line h l) t =
+    example.worked h (is-true (example.boxed h) (both-left (example.boxed h) (sameList (example.listing h) l) t)) ∙ same-list (example.listing h) l (both-right (example.boxed h) (sameList (example.listing h) l) t)
 
 pub data All : List Row → Type 0 where
   none : All []
@@ -100,8 +127,10 @@ table =
     ∷ operator (eight (pos 0) (pos 0) (pos 0) (pos 1) (pos 0) (pos 1) (pos 0) (pos 2)) 0
     ∷ operator (eight (pos 0) (pos 0) (pos 0) (pos 2) (pos 0) (pos 2) (pos 0) (pos 0)) 7
     ∷ operator (eight (negsuc 0) (pos 0) (pos 1) (pos 1) (pos 1) (pos 1) (pos 1) (pos 0)) 7
+    ∷ line (pos 5) (pos 0 ∷ pos 0 ∷ pos 1 ∷ pos 0 ∷ pos 1 ∷ pos 1 ∷ pos 2 ∷ pos 1 ∷ pos 2 ∷ pos 2 ∷ [])
+    ∷ line (pos 6) (pos 0 ∷ pos 0 ∷ pos 1 ∷ pos 0 ∷ pos 1 ∷ pos 1 ∷ pos 2 ∷ pos 1 ∷ pos 2 ∷ pos 2 ∷ pos 3 ∷ pos 2 ∷ [])
     ∷ []
 
 pub worked : All table
-unfolding checkOf inRange evenParity special detWhole detRoot imageOf
+unfolding checkOf op.inRange evenParity special detWhole detRoot imageOf example.boxed example.listing inRange pair
 worked = all table tt

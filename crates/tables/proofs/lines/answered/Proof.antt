@@ -1,0 +1,143 @@
+use mathlib.Core.Path.{sym}
+use lib.Seq.{length-take-le}
+use Prim.Native.Nat.{_-_}
+use borrow.Author.Needs.{needs}
+use Rattle.tables.proofs.lines.answered.Statement.{statement}
+use Rattle.tables.proofs.lines.answered.Tie as tie
+
+returns : tie.Need-returns
+returns c = search needs
+
+mul-abs : tie.Need-mul-abs
+mul-abs c = search needs
+
+array-copy-out-abs : tie.Need-array-copy-out-abs
+array-copy-out-abs c = search needs
+
+abs-requires : tie.Need-abs-requires
+abs-requires c κs = search needs
+
+returns-2 : tie.Need-returns-2
+returns-2 c = search needs
+
+mul-wide : tie.Need-mul-wide
+mul-wide c = search needs
+
+returns-3 : tie.Need-returns-3
+returns-3 c = search needs
+
+array-copy-out-interval : tie.Need-array-copy-out-interval
+array-copy-out-interval c = search needs
+
+array-copy-out-interval-2 : tie.Need-array-copy-out-interval-2
+array-copy-out-interval-2 c = search needs
+
+array-copy-out-interval-3 : tie.Need-array-copy-out-interval-3
+array-copy-out-interval-3 c = search needs
+
+interval-requires : tie.Need-interval-requires
+interval-requires c κs = search needs
+
+array-copy-out-interval-4 : tie.Need-array-copy-out-interval-4
+array-copy-out-interval-4 c = search needs
+
+array-copy-out-interval-5 : tie.Need-array-copy-out-interval-5
+array-copy-out-interval-5 c = search needs
+
+array-copy-out-interval-6 : tie.Need-array-copy-out-interval-6
+array-copy-out-interval-6 c = search needs
+
+interval-requires-2 : tie.Need-interval-requires-2
+interval-requires-2 c κs = search needs
+
+slice-relend-prefix-pairs : tie.Need-slice-relend-prefix-pairs
+slice-relend-prefix-pairs c = search needs
+
+slice-aggregate-pairs : tie.Need-slice-aggregate-pairs
+slice-aggregate-pairs c = sym (length-take-le _ _ (search needs))
+
+pairs-requires : tie.Need-pairs-requires
+pairs-requires c κs = search needs
+
+enum-told : tie.Need-enum-told
+enum-told c = search needs
+
+add-result : tie.Need-add-result
+add-result c = search needs
+
+mul-result : tie.Need-mul-result
+mul-result c = search needs
+
+array-copy-out-result : tie.Need-array-copy-out-result
+array-copy-out-result c = search needs
+
+enum-known-count : tie.Need-enum-known-count
+enum-known-count c = search needs
+
+add-handed : tie.Need-add-handed
+add-handed c = search needs
+
+handed-requires : tie.Need-handed-requires
+handed-requires c κs = search needs
+
+same-length : tie.Need-same-length
+same-length c = search needs
+
+returns-4 : tie.Need-returns-4
+returns-4 c = search needs
+
+same-length-2 : tie.Need-same-length-2
+same-length-2 c = search needs
+
+returns-5 : tie.Need-returns-5
+returns-5 c = search needs
+
+same-length-3 : tie.Need-same-length-3
+same-length-3 c = search needs
+
+returns-6 : tie.Need-returns-6
+returns-6 c = search needs
+
+same-length-4 : tie.Need-same-length-4
+same-length-4 c = search needs
+
+returns-7 : tie.Need-returns-7
+returns-7 c = search needs
+
+pub answered-spec : {M : Type 1} → statement M
+answered-spec =
+    tie.close
+    (tie.spec
+    returns
+    mul-abs
+    array-copy-out-abs
+    abs-requires
+    returns-2
+    mul-wide
+    returns-3
+    array-copy-out-interval
+    array-copy-out-interval-2
+    array-copy-out-interval-3
+    interval-requires
+    array-copy-out-interval-4
+    array-copy-out-interval-5
+    array-copy-out-interval-6
+    interval-requires-2
+    slice-relend-prefix-pairs
+    slice-aggregate-pairs
+    pairs-requires
+    enum-told
+    add-result
+    mul-result
+    array-copy-out-result
+    enum-known-count
+    add-handed
+    handed-requires
+    same-length
+    returns-4
+    same-length-2
+    returns-5
+    same-length-3
+    returns-6
+    same-length-4
+    returns-7)
