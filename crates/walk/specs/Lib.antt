@@ -1,4 +1,9 @@
--- `Walk` has the definitions; `Points` the ranks of points; `Full` the theorem about the full list.
+-- `Walk` has the definitions; `Points` the ranks of points; `Full` the theorem about the full list; `Search` what each level of the search promises; `Line`, `Cut` and
+-- `Bounds` which digits a job's cuts leave.
 pub mod Walk
 pub mod Points
 pub mod Full
+pub mod Search
+pub mod Line
+pub mod Cut
+pub mod Bounds
