@@ -6,7 +6,7 @@ use Prim.Native.Nat.{ℕ, _-_, _<_, _≤_}
 use native.Mathlib.Omega.{arith}
 use lib.Dec.{eqb, leb, ltb}
 use lib.ListN.{length, drop, getD, length-drop}
-use borrow.Author.Tests.{ne-eqb, lt-ltb, le-ltb, le-leb, lt-leb}
+use borrow.Author.Tests.{ne-eqb, le-leb, lt-leb}
 use Rattle.region.specs.declared.Rectangle.{Rectangle}
 use Rattle.region.specs.declared.Ellipse.{Ellipse}
 use Rattle.region.specs.declared.Region.{Region}
@@ -26,6 +26,8 @@ use Rattle.record.specs.declared.Record.{Record}
 use Rattle.record.specs.declared.Record.the-variants as Rec
 use Rattle.record.specs.declared.Refusal.{Refusal}
 use Rattle.record.specs.declared.Refusal.the-variants.{NoKind, UnknownKind, Short, OutOfRange, NotPositive, OddParity, NotSpecial, OutOfTurn, NoJob, Ended}
+use Rattle.record.specs.declared.Admission.{Admission}
+use Rattle.record.specs.declared.Admission.the-variants as A
 use Rattle.record.specs.declared.Reading.{Reading}
 use Rattle.record.specs.declared.Reading.the-variants.{Accepted, Refused}
 use Rattle.record.specs.Field.{unsignedAt, signedAt, one}
@@ -161,8 +163,19 @@ isKnown K.Ellipse = true
 isKnown K.Operator = true
 isKnown K.Unknown = false
 
+unfoldable pub admissionOf : (known fits short : Bool) → Admission
+admissionOf false fits short = A.Refused UnknownKind
+admissionOf true false short = A.Refused OutOfTurn
+admissionOf true true true = A.Refused Short
+admissionOf true true false = A.Whole
+
+-- a body that is read where nothing is refused before
+abbrev pub admitted : Admission → Reading → Reading
+admitted (A.Refused why) r = Refused why
+admitted A.Whole r = r
+
 abbrev pub kindReading : Kind → List ℕ → Turn → Reading
-kindReading k body t = pick (isKnown k) (pick (inTurn k t) (pick (ltb (length body) (bodyLength k)) (Refused Short) (bodyOf k body)) (Refused OutOfTurn)) (Refused UnknownKind)
+kindReading k body t = admitted (admissionOf (isKnown k) (inTurn k t) (ltb (length body) (bodyLength k))) (bodyOf k body)
 
 unfoldable pub readingOf : List ℕ → Turn → Reading
 readingOf [] t = Refused NoKind
@@ -208,15 +221,13 @@ unfolding readingOf
 reading-kind [] t h = absurd (h refl)
 reading-kind (b ∷ l) t h = refl
 
-module _ (l : List ℕ) (t : Turn) (k : Kind) (some : length l ≡ 0 → ⊥) (e : k ≡ kindOf (getD l 0 0)) where
-  pub reading-unknown : isKnown k ≡ false → readingOf l t ≡ Refused UnknownKind
-  reading-unknown h = rw (reading-kind l t some, ← e, h) refl
+-- a whole admission is one of a body that is not short
+pub whole-long : (known fits short : Bool) → admissionOf known fits short ≡ A.Whole → short ≡ false
+unfolding admissionOf
+whole-long false fits short e = absurd (let z : _≡_ {A = ℕ} 0 1 = cc in omega arith)
+whole-long true false short e = absurd (let z : _≡_ {A = ℕ} 0 1 = cc in omega arith)
+whole-long true true true e = absurd (let z : _≡_ {A = ℕ} 0 1 = cc in omega arith)
+whole-long true true false e = refl
 
-  pub reading-out-of-turn : isKnown k ≡ true → inTurn k t ≡ false → readingOf l t ≡ Refused OutOfTurn
-  reading-out-of-turn h i = rw (reading-kind l t some, ← e, h, i) refl
-
-  pub reading-short : isKnown k ≡ true → inTurn k t ≡ true → length l - 1 < bodyLength k → readingOf l t ≡ Refused Short
-  reading-short h i g = rw (reading-kind l t some, ← e, h, i, length-drop 1 l, lt-ltb (length l - 1) (bodyLength k) g) refl
-
-  pub reading-body : isKnown k ≡ true → inTurn k t ≡ true → bodyLength k ≤ length l - 1 → readingOf l t ≡ bodyOf k (drop 1 l)
-  reading-body h i g = rw (reading-kind l t some, ← e, h, i, length-drop 1 l, le-ltb (length l - 1) (bodyLength k) g) refl
+pub reading-admitted : (l : List ℕ) (t : Turn) (k : Kind) → (length l ≡ 0 → ⊥) → k ≡ kindOf (getD l 0 0) → (a : Admission) → a ≡ admissionOf (isKnown k) (inTurn k t) (ltb (length l - 1) (bodyLength k)) → readingOf l t ≡ admitted a (bodyOf k (drop 1 l))
+reading-admitted l t k some e a f = rw (reading-kind l t some, ← e, length-drop 1 l, ← f) refl

@@ -5,7 +5,8 @@ ghost use Prim.Native.Nat.{_≤_, _<_};
 ghost use lib.ListN.{length};
 ghost use Rattle.region.specs.Region.{checkOf as regionCheck};
 ghost use Rattle.operator.specs.Operator.{checkOf as operatorCheck};
-ghost use Rattle.record.specs.Record.{readingOf, kindOf, isKnown, inTurn, isScale, isRegion, isOperators, bodyLength, bodyOf, scaleOf, rectangleOf, ellipseOf, operatorOf, regionReading, operatorReading};
+ghost use Rattle.record.specs.Record.{number as numberOf};
+ghost use Rattle.record.specs.Record.{readingOf, admissionOf, kindOf, isKnown, inTurn, isScale, isRegion, isOperators, bodyLength, bodyOf, scaleOf, rectangleOf, ellipseOf, operatorOf, regionReading, operatorReading};
 use operator::Operator;
 use region::Ellipse;
 use region::Rectangle;
@@ -50,10 +51,35 @@ pub enum Refusal {
     Ended,
 }
 
+impl Refusal {
+    pub fn number(self) -> u8
+        ensures { λ r. ⌜ r ≡ numberOf self ⌝ }
+    {
+        match self {
+            Refusal::NoKind => 1,
+            Refusal::UnknownKind => 2,
+            Refusal::Short => 3,
+            Refusal::OutOfRange => 4,
+            Refusal::NotPositive => 5,
+            Refusal::OddParity => 6,
+            Refusal::NotSpecial => 7,
+            Refusal::OutOfTurn => 8,
+            Refusal::NoJob => 9,
+            Refusal::Ended => 10,
+        }
+    }
+}
+
 // A record and the bytes it took, or the refusal, which takes none.
 pub enum Reading {
     Accepted(Record, usize),
     Refused(Refusal),
+}
+
+// Whether a body is read, or what is refused before.
+enum Admission {
+    Refused(Refusal),
+    Whole,
 }
 
 // One reading.
@@ -64,18 +90,27 @@ pub fn read(bytes: &[u8], turn: Turn) -> Reading
         return Reading::Refused(Refusal::NoKind);
     }
     let kind = kind_of(bytes[0]);
-    let known = is_known(kind);
+    let short = bytes.len() - 1 < body_length(kind);
+    match admit(is_known(kind), in_turn(kind, turn), short) {
+        Admission::Refused(why) => Reading::Refused(why),
+        Admission::Whole => body(kind, &bytes[1..]),
+    }
+}
+
+// What is refused before the body is read, in the order 2, 8, 3.
+fn admit(known: bool, fits: bool, short: bool) -> Admission
+    ensures { λ r. ⌜ r ≡ admissionOf known fits short ⌝ }
+{
     if !known {
-        return Reading::Refused(Refusal::UnknownKind);
+        return Admission::Refused(Refusal::UnknownKind);
     }
-    let fits = in_turn(kind, turn);
     if !fits {
-        return Reading::Refused(Refusal::OutOfTurn);
+        return Admission::Refused(Refusal::OutOfTurn);
     }
-    if bytes.len() - 1 < body_length(kind) {
-        return Reading::Refused(Refusal::Short);
+    if short {
+        return Admission::Refused(Refusal::Short);
     }
-    body(kind, &bytes[1..])
+    Admission::Whole
 }
 
 fn kind_of(b: u8) -> Kind

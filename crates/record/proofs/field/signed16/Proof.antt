@@ -1,12 +1,8 @@
-use mathlib.Core.Path.{_≡_, refl, sym, _∙_}
-use Prim.Native.Nat.{ℕ, suc, _-_}
+use mathlib.Core.Path.{refl}
 use native.Mathlib.Omega.{arith}
-use lib.IntN.{pos, negsuc, _-ℤ_}
 use mir.Syntax.{w16, w32}
-use mir.Val.{SFits, toZ}
-use mir.Facts.{toZ-ofZ, toZ-pos}
 use borrow.Author.Needs.{needs}
-use Rattle.record.specs.Field.{less, twos-low, twos-high}
+use Rattle.record.proofs.Twos.{low, wide, narrow, high}
 use Rattle.record.proofs.field.signed16.Statement.{statement}
 use Rattle.record.proofs.field.signed16.Tie as tie
 
@@ -16,31 +12,17 @@ cast-result c = search needs
 cast-result-2 : tie.Need-cast-result-2
 cast-result-2 c = search needs
 
--- above half: what the difference is, and that it fits both ways
-module _ (c : tie.Else1) where
-  abbrev u : ℕ
-  u = c .before .args .u
-
-  turned : toZ w32 u -ℤ pos 65536 ≡ negsuc (65536 - suc u)
-  turned = rw (toZ-pos w32 {n = u} (omega arith)) (less u 65536 (omega arith))
-
-  fits : SFits w32 (negsuc (65536 - suc u))
-  fits = record { sfits = omega arith }
-
-  narrow : SFits w16 (negsuc (65536 - suc u))
-  narrow = record { sfits = omega arith }
-
 sub-result : tie.Need-sub-result
-sub-result c = rw (turned c) (fits c)
+sub-result c = wide w16 w32 (c .before .args .u) 65536 (omega arith) (omega arith) (omega arith)
 
 cast-result-3 : tie.Need-cast-result-3
-cast-result-3 c = rw (turned c, toZ-ofZ (fits c)) (narrow c)
+cast-result-3 c = narrow w16 w32 (c .before .args .u) 65536 (omega arith) (omega arith) (omega arith) (omega arith) (omega arith)
 
 returns : tie.Need-returns
-returns c = toZ-pos w16 {n = c .before .args .u} (omega arith) ∙ sym (twos-low 16 (c .before .args .u) (omega arith))
+returns c = low w16 16 (c .before .args .u) (omega arith) (omega arith)
 
 returns-2 : tie.Need-returns-2
-returns-2 c = rw (turned c, toZ-ofZ (fits c), toZ-ofZ (narrow c)) (sym (twos-high 16 (u c) (omega arith) (omega arith)))
+returns-2 c = high w16 w32 (c .before .args .u) _ (omega arith) (omega arith) (omega arith) (omega arith) (omega arith) 16 refl (omega arith) (omega arith)
 
 pub signed16-spec : {M : Type 1} → statement M
 signed16-spec =
