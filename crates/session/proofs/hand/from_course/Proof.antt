@@ -1,0 +1,44 @@
+use mathlib.Core.Path.{_≡_, refl, sym, ap, _∙_}
+use Rattle.session.specs.Session.{course-hands}
+use borrow.Author.Needs.{needs}
+use Rattle.session.proofs.hand.from_course.Statement.{statement}
+use Rattle.session.proofs.hand.from_course.Tie as tie
+use Rattle.session.proofs.hand.from_course.Reads as reads
+use Rattle.session.proofs.hand.from_course.Lts as lts
+use Rattle.session.proofs.hand.from_spot.Reads as from-spot-reads
+use Rattle.session.proofs.refused.Reads as refused-reads
+
+enum-told : tie.Need-enum-told
+enum-told c = search needs
+
+from-spot-requires : tie.Need-from-spot-requires
+from-spot-requires c κs = search needs
+
+enum-told-2 : tie.Need-enum-told-2
+enum-told-2 c = search needs
+
+refused-requires : tie.Need-refused-requires
+refused-requires c κs = search needs
+
+same-length : tie.Need-same-length
+same-length c = search needs
+
+returns : tie.Need-returns
+returns c =
+    let e = c .before .before .before in
+    rw (course-hands (e .before .before .args .c) _ _ (e .enum-told .given .1)) (c .before .from-spot .ensures)
+
+returns-2 : tie.Need-returns-2
+returns-2 c = rw (c .refused .ensures .0, c .refused .ensures .1, c .before .enum-told2 .given .1) (record { met = refl; slice = refl })
+
+pub from-course-spec : {M : Type 1} → statement M
+from-course-spec =
+    tie.close
+    (tie.spec
+    enum-told
+    from-spot-requires
+    enum-told-2
+    refused-requires
+    same-length
+    returns
+    returns-2)

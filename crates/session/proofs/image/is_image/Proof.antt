@@ -1,0 +1,52 @@
+use Rattle.session.specs.World.{isImage}
+use mathlib.Core.Path.{_≡_, refl, sym, ap, ap₂, _∙_}
+use borrow.Author.Needs.{needs}
+use Rattle.session.proofs.image.is_image.Statement.{statement}
+use Rattle.session.proofs.image.is_image.Tie as tie
+use Rattle.session.proofs.image.is_image.Reads as reads
+use Rattle.session.proofs.image.is_image.Lts as lts
+use Rattle.operator.proofs.Operator.image.Reads as image-reads
+use Rattle.operator.proofs.Operator.inverse.Reads as inverse-reads
+use Rattle.session.proofs.image.solves_wide.Reads as solves-wide-reads
+
+-- src/image.rt:17:9
+inverse-requires : tie.Need-inverse-requires
+inverse-requires c κs = search needs
+
+-- src/image.rt:19:27
+enum-known-i : tie.Need-enum-known-i
+enum-known-i c = search needs
+
+-- src/image.rt:19:50
+image-requires : tie.Need-image-requires
+image-requires c κs = search needs
+
+-- src/image.rt:19:33
+solves-wide-requires : tie.Need-solves-wide-requires
+solves-wide-requires c κs = search needs
+
+-- src/image.rt:20:32
+enum-told : tie.Need-enum-told
+enum-told c = search needs
+
+-- src/image.rt:14:1
+returns : tie.Need-returns
+unfolding isImage
+returns c = c .solves-wide .ensures ∙ rw (sym (c .before .before .before .before .before .inverse .ensures) ∙ c .before .before .before .i .given .1, c .before .image .ensures) refl
+
+-- src/image.rt:14:1
+returns-2 : tie.Need-returns-2
+unfolding isImage
+returns-2 c = rw (sym (c .before .before .inverse .ensures) ∙ c .enum-told .given .1) refl
+
+pub is-image-spec : {M : Type 1} → statement M
+is-image-spec =
+    tie.close
+    (tie.spec
+    inverse-requires
+    enum-known-i
+    image-requires
+    solves-wide-requires
+    enum-told
+    returns
+    returns-2)

@@ -1,0 +1,61 @@
+-- Demand 3 for the sessions of document 01: the theorems of `calls` in their world. A list of calls begins at the fresh session; each call's contract is one step.
+use mathlib.Core.Path.{_≡_}
+use mathlib.Core.List.{List, [], _∷_, _++_, map}
+use Prim.Native.Nat.{ℕ, _*_, min}
+use lib.IntN.{ℤ}
+use lib.ListN.{length, take}
+use Rattle.ranks.specs.Members.{Rising}
+use Rattle.ranks.specs.Handed.{flat}
+use Rattle.walk.specs.Walk.{numbersOf}
+use Rattle.calls.specs.Session.{Call, handOut, step, answers, after}
+use Rattle.calls.specs.Session as Model
+use Rattle.calls.specs.Rules.{verdict, verdicts, begin}
+use Rattle.calls.specs.Agree.{whole-list}
+use Rattle.calls.specs.Since.{exchanges, since, points, spaces, fullOf, leftAfter}
+use Rattle.calls.specs.First.{handed-first, handed-count, handed-rising, Reports, end-reported}
+use Rattle.calls.specs.Refused.{NotMade, not-made}
+use Rattle.calls.specs.Operators.{struck, isHandOut, isIndependent, picked, alike-hand-outs, alike-others}
+use Rattle.calls.specs.Remembered.{operatorOf, lastAccepted, last-remembered}
+use Rattle.operator.specs.Operator.{identity}
+use Rattle.session.specs.World.{world}
+use Rattle.session.specs.Session.{meaning, fresh}
+
+abbrev Calls : Type 0
+Calls = List (Call world)
+
+-- the session that a list of calls from a fresh one leaves
+abbrev pub left : Calls → Model.Session world
+left cs = after world (meaning fresh) cs
+
+-- "Which of its calls are refused, and each hand-out's count, end and points, must be what these rules give"
+pub session-rules : (cs : Calls) → map (verdict world) (answers world (meaning fresh) cs) ≡ verdicts world (begin world) cs
+session-rules = whole-list world
+
+-- "the first ones of the job's full list", "in rising order, each once", "as many as .. had space for, or all of them if they are fewer"
+pub session-first : (cs : Calls) → points world (since world cs) ≡ flat numbersOf (take (spaces world (since world cs)) (fullOf world (left cs)))
+session-first = handed-first world
+
+pub session-rising : (cs : Calls) → Rising 0 (take (spaces world (since world cs)) (fullOf world (left cs)))
+session-rising = handed-rising world
+
+pub session-count : (cs : Calls) → length (points world (since world cs)) ≡ 4 * min (spaces world (since world cs)) (length (fullOf world (left cs)))
+session-count = handed-count world
+
+-- "Each hand-out that isn't refused reports the end exactly when none is left after it."
+pub session-end : (cs : Calls) (l : List ℤ) → Reports world (step world (handOut l) (left cs) .0) (leftAfter world (cs ++ (handOut l ∷ [])))
+session-end = end-reported world
+
+-- "A list with its refused calls struck out .. gives the other calls the same answers and leaves the same session."
+pub session-refused : (cs : Calls) → NotMade world (meaning fresh) cs
+session-refused cs = not-made world cs (meaning fresh)
+
+-- operator readings struck out: the same hand-outs, and the same of all calls but the image question
+pub session-operators : (cs ds : Calls) → struck world cs ≡ struck world ds → picked world (isHandOut world) (meaning fresh) cs ≡ picked world (isHandOut world) (meaning fresh) ds
+session-operators = alike-hand-outs world
+
+pub session-others : (cs ds : Calls) → struck world cs ≡ struck world ds → picked world (isIndependent world) (meaning fresh) cs ≡ picked world (isIndependent world) (meaning fresh) ds
+session-others = alike-others world
+
+-- "The session remembers the last operator that a caller had accepted, the identity if none"
+pub session-remembers : (cs : Calls) → operatorOf world (left cs) ≡ lastAccepted world identity (exchanges world (meaning fresh) cs)
+session-remembers = last-remembered world

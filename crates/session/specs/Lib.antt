@@ -1,0 +1,5 @@
+pub mod World
+pub mod Session
+pub mod Wide
+pub mod Image
+pub mod Calls

@@ -1,0 +1,54 @@
+// A session's hand-outs.
+ghost use mathlib.Core.Path.{_≡_};
+ghost use Rattle.calls.specs.Session.{step, handOut, given};
+ghost use Rattle.ranks.specs.Rest.{leftAt};
+ghost use Rattle.ranks.specs.Rank.{top};
+ghost use Rattle.walk.specs.Walk.{span, solvesAt, spotOf};
+ghost use Rattle.session.specs.World.{world};
+ghost use Rattle.session.specs.Session.{courseOf, Gives};
+use crate::Answer;
+use crate::Course;
+use crate::Outcome;
+use crate::Session;
+use crate::Stage;
+use crate::place;
+use crate::refused;
+use record::Refusal;
+use walk::Spot;
+
+// With a job: after the end was reported it is refused.
+pub(crate) fn from_course(c: Course, out: &mut [i32]) -> Outcome
+    ensures { λ r. ⌜ Gives (step world (handOut (now (out .entry))) (courseOf c)) (now (out .entry)) (now (out .exit)) (r .session) (r .answer) ⌝ }
+{
+    let p = c.spot;
+    match p {
+        Spot::At(_) => from_spot(c, out),
+        Spot::Ended => refused(
+            Session {
+                stage: Stage::Walking(c),
+            },
+            Refusal::Ended,
+        ),
+    }
+}
+
+// What is left from the spot on.
+fn from_spot(c: Course, out: &mut [i32]) -> Outcome
+    ensures { λ r. ⌜ Gives (given world (c .job) (c .operator) (now (out .entry)) (leftAt (solvesAt (c .job)) (top span) (spotOf (c .spot)))) (now (out .entry)) (now (out .exit)) (r .session) (r .answer) ⌝ }
+{
+    let job = c.job;
+    let operator = c.operator;
+    let from = c.spot;
+    let h = walk::hand_out(job, from, out);
+    let spot = h.spot;
+    Outcome {
+        session: Session {
+            stage: Stage::Walking(Course {
+                job: job,
+                spot: spot,
+                operator: operator,
+            }),
+        },
+        answer: Answer::Handed(h.count, place::is_ended(spot)),
+    }
+}

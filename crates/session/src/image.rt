@@ -1,0 +1,50 @@
+// The image question: document 01, "Operators".
+ghost use mathlib.Core.Path.{_≡_};
+ghost use Rattle.operator.specs.Operator.{wide};
+ghost use Rattle.region.specs.Region.{solves};
+ghost use Rattle.session.specs.World.{isImage};
+use integers::Narrow;
+use operator::Inverse;
+use operator::Operator;
+use operator::WidePoint;
+use region::Job;
+use ring::Point;
+
+// Whether the operator's inverse sends w to a solution.
+pub(crate) fn is_image(job: Job, g: Operator, w: Point) -> bool
+    ensures { λ r. ⌜ r ≡ isImage job g w ⌝ }
+{
+    let i = g.inverse();
+    match i {
+        Inverse::Operator(h) => solves_wide(job, h.image(w)),
+        Inverse::Refused(_) => false,
+    }
+}
+
+// A point beyond 32 bits solves no job.
+fn solves_wide(job: Job, v: WidePoint) -> bool
+    ensures { λ r. ⌜ r ≡ solves job (wide v) ⌝ }
+{
+    let na = integers::to_i32(v.a);
+    let Narrow::Fits(a) = na else {
+        return false;
+    };
+    let nb = integers::to_i32(v.b);
+    let Narrow::Fits(b) = nb else {
+        return false;
+    };
+    let nc = integers::to_i32(v.c);
+    let Narrow::Fits(c) = nc else {
+        return false;
+    };
+    let nd = integers::to_i32(v.d);
+    let Narrow::Fits(d) = nd else {
+        return false;
+    };
+    job.solves(Point {
+        a: a,
+        b: b,
+        c: c,
+        d: d,
+    })
+}

@@ -1,0 +1,157 @@
+// A session and its calls, by value: document 01, "The walk" and "A whole list of calls". Each call's contract is one step of the model in `calls`.
+ghost use mathlib.Core.Path.{_≡_};
+ghost use mathlib.Core.List.{[]};
+ghost use Rattle.calls.specs.Session.{reading, handOut, rewind, clear, plain, imageOf};
+ghost use Rattle.session.specs.Session.{fresh, turnOf, Steps, Hands};
+
+mod hand;
+mod image;
+mod join;
+mod place;
+
+use operator::Operator;
+use record::Reading;
+use record::Refusal;
+use record::Turn;
+use region::Job;
+use region::Region;
+use ring::Point;
+use walk::Spot;
+
+// A job with the place of its walk and the operator that is remembered.
+pub struct Course {
+    pub job: Job,
+    pub spot: Spot,
+    pub operator: Operator,
+}
+
+// What a session has read: nothing, the scale, scale and region A, or a whole job.
+pub enum Stage {
+    Fresh,
+    Scaled(u8),
+    First(u8, Region),
+    Walking(Course),
+}
+
+pub struct Session {
+    pub stage: Stage,
+}
+
+// What a call answers: a reading the bytes taken, a hand-out its count and whether the end is reached, a question yes or no.
+pub enum Answer {
+    Taken(usize),
+    Handed(usize, bool),
+    Done,
+    Says(bool),
+    Refused(Refusal),
+}
+
+// The session that a call leaves, and its answer.
+pub struct Outcome {
+    pub session: Session,
+    pub answer: Answer,
+}
+
+// A session that has read nothing.
+pub fn start() -> Session
+    ensures { λ r. ⌜ r ≡ fresh ⌝ }
+{
+    Session {
+        stage: Stage::Fresh,
+    }
+}
+
+// A refused call changes nothing.
+fn refused(s: Session, f: Refusal) -> Outcome
+    ensures { λ r. ⌜ (r .session ≡ s) × (r .answer ≡ Answer.Refused f) ⌝ }
+{
+    Outcome {
+        session: s,
+        answer: Answer::Refused(f),
+    }
+}
+
+fn turn(s: Session) -> Turn
+    ensures { λ r. ⌜ r ≡ turnOf s ⌝ }
+{
+    let g = s.stage;
+    match g {
+        Stage::Fresh => Turn::Scale,
+        Stage::Scaled(_) => Turn::First,
+        Stage::First(_, _) => Turn::Second,
+        Stage::Walking(_) => Turn::Operators,
+    }
+}
+
+// One reading: a record from the front of the bytes joins the session, or is refused.
+pub fn read(s: Session, bytes: &[u8]) -> Outcome
+    ensures { λ r. ⌜ Steps (reading (now (bytes .entry))) [] s (r .session) (r .answer) ⌝ }
+{
+    let r = record::read(bytes, turn(s));
+    match r {
+        Reading::Accepted(x, n) => join::accepted(s, x, n),
+        Reading::Refused(f) => refused(s, f),
+    }
+}
+
+// A hand-out: as many of the next solutions as the slice has space for.
+pub fn hand_out(s: Session, out: &mut [i32]) -> Outcome
+    ensures { λ r. ⌜ Hands s (now (out .entry)) (now (out .exit)) (r .session) (r .answer) ⌝ }
+{
+    let g = s.stage;
+    match g {
+        Stage::Fresh => refused(s, Refusal::NoJob),
+        Stage::Scaled(_) => refused(s, Refusal::NoJob),
+        Stage::First(_, _) => refused(s, Refusal::NoJob),
+        Stage::Walking(c) => hand::from_course(c, out),
+    }
+}
+
+// Back before the first point.
+pub fn rewind(s: Session) -> Outcome
+    ensures { λ r. ⌜ Steps rewind [] s (r .session) (r .answer) ⌝ }
+{
+    let g = s.stage;
+    match g {
+        Stage::Fresh => refused(s, Refusal::NoJob),
+        Stage::Scaled(_) => refused(s, Refusal::NoJob),
+        Stage::First(_, _) => refused(s, Refusal::NoJob),
+        Stage::Walking(c) => place::rewound(c),
+    }
+}
+
+// A fresh session again.
+pub fn clear(s: Session) -> Outcome
+    ensures { λ r. ⌜ Steps clear [] s (r .session) (r .answer) ⌝ }
+{
+    Outcome {
+        session: start(),
+        answer: Answer::Done,
+    }
+}
+
+// Whether the job has a solution.
+pub fn has_solution(s: Session) -> Answer
+    ensures { λ r. ⌜ Steps plain [] s s r ⌝ }
+{
+    let g = s.stage;
+    match g {
+        Stage::Fresh => Answer::Refused(Refusal::NoJob),
+        Stage::Scaled(_) => Answer::Refused(Refusal::NoJob),
+        Stage::First(_, _) => Answer::Refused(Refusal::NoJob),
+        Stage::Walking(c) => Answer::Says(place::is_solvable(c.job)),
+    }
+}
+
+// Whether w is what the remembered operator makes of a solution.
+pub fn has_image(s: Session, w: Point) -> Answer
+    ensures { λ r. ⌜ Steps (imageOf w) [] s s r ⌝ }
+{
+    let g = s.stage;
+    match g {
+        Stage::Fresh => Answer::Refused(Refusal::NoJob),
+        Stage::Scaled(_) => Answer::Refused(Refusal::NoJob),
+        Stage::First(_, _) => Answer::Refused(Refusal::NoJob),
+        Stage::Walking(c) => Answer::Says(image::is_image(c.job, c.operator, w)),
+    }
+}
