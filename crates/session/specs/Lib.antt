@@ -3,3 +3,4 @@ pub mod Session
 pub mod Wide
 pub mod Image
 pub mod Calls
+pub mod Remembered

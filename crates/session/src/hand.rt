@@ -12,7 +12,6 @@ use crate::Outcome;
 use crate::Session;
 use crate::Stage;
 use crate::place;
-use crate::refused;
 use record::Refusal;
 use walk::Spot;
 
@@ -23,12 +22,18 @@ pub(crate) fn from_course(c: Course, out: &mut [i32]) -> Outcome
     let p = c.spot;
     match p {
         Spot::At(_) => from_spot(c, out),
-        Spot::Ended => refused(
-            Session {
-                stage: Stage::Walking(c),
-            },
-            Refusal::Ended,
-        ),
+        Spot::Ended => after_end(c),
+    }
+}
+
+fn after_end(c: Course) -> Outcome
+    ensures { λ r. ⌜ (r .session .stage ≡ Stage.Walking c) × (r .answer ≡ Answer.Refused Refusal.Ended) ⌝ }
+{
+    Outcome {
+        session: Session {
+            stage: Stage::Walking(c),
+        },
+        answer: Answer::Refused(Refusal::Ended),
     }
 }
 

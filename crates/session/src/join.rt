@@ -80,17 +80,18 @@ fn operator(s: Session, g: Operator, n: usize) -> Outcome
         Stage::Fresh => refused(s, Refusal::OutOfTurn),
         Stage::Scaled(_) => refused(s, Refusal::OutOfTurn),
         Stage::First(_, _) => refused(s, Refusal::OutOfTurn),
-        Stage::Walking(c) => {
-            let job = c.job;
-            let spot = c.spot;
-            taken(
-                Stage::Walking(Course {
-                    job: job,
-                    spot: spot,
-                    operator: g,
-                }),
-                n,
-            )
-        }
+        Stage::Walking(c) => taken(Stage::Walking(remembering(c, g)), n),
+    }
+}
+
+fn remembering(c: Course, g: Operator) -> Course
+    ensures { λ r. ⌜ (r .job ≡ c .job) × (r .spot ≡ c .spot) × (r .operator ≡ g) ⌝ }
+{
+    let job = c.job;
+    let spot = c.spot;
+    Course {
+        job: job,
+        spot: spot,
+        operator: g,
     }
 }

@@ -6,7 +6,7 @@ use Rattle.session.proofs.hand.from_course.Tie as tie
 use Rattle.session.proofs.hand.from_course.Reads as reads
 use Rattle.session.proofs.hand.from_course.Lts as lts
 use Rattle.session.proofs.hand.from_spot.Reads as from-spot-reads
-use Rattle.session.proofs.refused.Reads as refused-reads
+use Rattle.session.proofs.hand.after_end.Reads as after-end-reads
 
 enum-told : tie.Need-enum-told
 enum-told c = search needs
@@ -17,8 +17,8 @@ from-spot-requires c κs = search needs
 enum-told-2 : tie.Need-enum-told-2
 enum-told-2 c = search needs
 
-refused-requires : tie.Need-refused-requires
-refused-requires c κs = search needs
+after-end-requires : tie.Need-after-end-requires
+after-end-requires c κs = search needs
 
 same-length : tie.Need-same-length
 same-length c = search needs
@@ -29,7 +29,7 @@ returns c =
     rw (course-hands (e .before .before .args .c) _ _ (e .enum-told .given .1)) (c .before .from-spot .ensures)
 
 returns-2 : tie.Need-returns-2
-returns-2 c = rw (c .refused .ensures .0, c .refused .ensures .1, c .before .enum-told2 .given .1) (record { met = refl; slice = refl })
+returns-2 c = rw (c .after-end .ensures .0, c .after-end .ensures .1, c .before .enum-told2 .given .1) (record { met = refl; slice = refl })
 
 pub from-course-spec : {M : Type 1} → statement M
 from-course-spec =
@@ -38,7 +38,7 @@ from-course-spec =
     enum-told
     from-spot-requires
     enum-told-2
-    refused-requires
+    after-end-requires
     same-length
     returns
     returns-2)

@@ -28,6 +28,9 @@ refused-requires-3 c κs = search needs
 enum-known-t : tie.Need-enum-known-t
 enum-known-t c = search needs
 
+remembering-requires : tie.Need-remembering-requires
+remembering-requires c κs = search needs
+
 taken-requires : tie.Need-taken-requires
 taken-requires c κs = search needs
 
@@ -41,7 +44,9 @@ returns-3 : tie.Need-returns-3
 returns-3 c = rw (c .refused3 .ensures .0, c .refused3 .ensures .1, c .before .enum-told3 .given .1) refl
 
 returns-4 : tie.Need-returns-4
-returns-4 c = rw (c .taken .ensures .0, c .taken .ensures .1, c .before .before .before .t .given .1) refl
+returns-4 c =
+    let e = c .before .remembering .ensures in
+    rw (c .taken .ensures .0, c .taken .ensures .1, e .0, e .1, e .2, c .before .before .before .t .given .1) refl
 
 pub operator-spec : {M : Type 1} → statement M
 operator-spec =
@@ -54,6 +59,7 @@ operator-spec =
     enum-told-3
     refused-requires-3
     enum-known-t
+    remembering-requires
     taken-requires
     returns
     returns-2
