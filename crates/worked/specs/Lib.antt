@@ -1,1 +1,4 @@
+pub mod Bounded
+pub mod Listed
+pub mod Twins
 pub mod Table

@@ -6,18 +6,30 @@ use mathlib.Core.List.{List, [], _∷_}
 use Prim.Native.Nat.{ℕ, _*_}
 use lib.Dec.{T, eqb, eqb→eq}
 use lib.IntN.{ℤ, pos, negsuc, natAbs}
-use lib.Signed.{leZ, nonNeg, leZ-yes}
-use Rattle.integers.specs.Order.{≼-antisym}
+use lib.Signed.{nonNeg}
 use Rattle.ring.specs.declared.Point.{Point}
 use Rattle.ring.specs.Sign.{signOf, signOf-is, bySigns, number}
-use Rattle.ring.specs.Point.{ext}
+use Rattle.ring.specs.Point.Exponent.{exponentOf}
+use Rattle.region.specs.declared.Job.{Job}
+use Rattle.region.specs.declared.Region.{Region}
+use Rattle.region.specs.declared.Region.the-variants as R
+use Rattle.region.specs.Region.{accepted, checkOf as regionCheck, inRangeR, inRangeE}
+use Rattle.region.specs.Reach.{reachOf}
+use Rattle.region.specs.Cut.{sgn}
 use Rattle.ranks.specs.Handed.{flat}
 use Rattle.ranks.specs.Digits.{pair}
+use Rattle.ranks.specs.Rank.{rank}
+use Rattle.walk.specs.Walk.{span, numbersOf, full as solutions}
 use Rattle.line.specs.Line.{pairOf, inRange, full}
 use Rattle.line.specs.Worked as example
 use Rattle.operator.specs.declared.Operator.{Operator}
 use Rattle.operator.specs.Operator as op
-use Rattle.operator.specs.Operator.{refusal, checkOf, evenParity, special, detWhole, detRoot, imageOf}
+use Rattle.operator.specs.Operator.{identity, refusal, checkOf, evenParity, special, detWhole, detRoot, imageOf}
+use Rattle.operator.specs.Inverse.{adjugate, times, inverseOf}
+use Rattle.session.specs.World.{isImage}
+use Rattle.worked.specs.Bounded.{both, both-left, both-right}
+use Rattle.worked.specs.Listed.{same, same-is, samePoint, same-point, numbers, wholeList, whole-list}
+use Rattle.worked.specs.Twins.{exponentBy, exponent-by, isImageBy, image-by}
 
 pub data Row : Type 0 where
   -- the sign of p + q√2, as −1, 0 or 1
@@ -28,6 +40,12 @@ pub data Row : Type 0 where
   image : Operator → Point → Point → Row
   -- the pairs a, b with a + b√2 in [0, h] and a − b√2 in [−1, 1], one after the other
   line : ℤ → List ℤ → Row
+  -- the solutions of a job, in order; all lie within ±m
+  job : Job → (m : ℕ) → List Point → Row
+  -- the exponent of v/√2^k
+  exponent : ℕ → Point → ℕ → Row
+  -- the image question for a job, the remembered operator and a point
+  asked : Job → Operator → Point → Bool → Row
 
 -- ---- what a row claims
 abbrev pub Claim : Row → Type 0
@@ -35,17 +53,15 @@ Claim (sign p q s) = number (signOf p q) ≡ s
 Claim (operator g n) = refusal (checkOf g) ≡ n
 Claim (image g v w) = imageOf g v ≡ w
 Claim (line h l) = flat pairOf (full (example.upTo h) example.unit) ≡ l
+Claim (job j m ps) = flat numbersOf (solutions j) ≡ numbers ps
+Claim (exponent k v e) = exponentOf k v ≡ e
+Claim (asked j g w b) = isImage j g w ≡ b
 
 -- ---- the test, on what computes
-abbrev both : Bool → Bool → Bool
-both true b = b
-both false b = false
-
-abbrev same : ℤ → ℤ → Bool
-same x y = both (leZ x y) (leZ y x)
-
-abbrev samePoint : Point → Point → Bool
-samePoint v w = both (both (same (v .a) (w .a)) (same (v .b) (w .b))) (both (same (v .c) (w .c)) (same (v .d) (w .d)))
+abbrev sameBool : Bool → Bool → Bool
+sameBool true b = b
+sameBool false true = false
+sameBool false false = true
 
 abbrev sameList : List ℤ → List ℤ → Bool
 sameList [] [] = true
@@ -58,29 +74,20 @@ right (sign p q s) = same (number (bySigns (nonNeg p) (nonNeg q) (natAbs p * nat
 right (operator g n) = eqb (refusal (checkOf g)) n
 right (image g v w) = samePoint (imageOf g v) w
 right (line h l) = both (example.boxed h) (sameList (example.listing h) l)
+right (job j m ps) = wholeList j m ps
+right (exponent k v e) = eqb (exponentBy k v) e
+right (asked j g w b) = sameBool (isImageBy j g w) b
 
 abbrev every : List Row → Bool
 every [] = true
 every (r ∷ rs) = both (right r) (every rs)
 
 -- ---- the law
-both-left : (a b : Bool) → T (both a b) → T a
-both-left true b t = tt
-both-left false b t = t
-
-both-right : (a b : Bool) → T (both a b) → T b
-both-right true b t = t
-both-right false b t = absurd t
-
-same-is : (x y : ℤ) → T (same x y) → x ≡ y
-same-is x y t = ≼-antisym x y (leZ-yes (both-left (leZ x y) (leZ y x) t)) (leZ-yes (both-right (leZ x y) (leZ y x) t))
-
-same-point : (v w : Point) → T (samePoint v w) → v ≡ w
-same-point v w t =
-    let ab = both-left (both (same (v .a) (w .a)) (same (v .b) (w .b))) (both (same (v .c) (w .c)) (same (v .d) (w .d))) t in
-    let cd = both-right (both (same (v .a) (w .a)) (same (v .b) (w .b))) (both (same (v .c) (w .c)) (same (v .d) (w .d))) t in
-    ext (same-is (v .a) (w .a) (both-left (same (v .a) (w .a)) (same (v .b) (w .b)) ab)) (same-is (v .b) (w .b) (both-right (same (v .a) (w .a)) (same (v .b) (w .b)) ab))
-    (same-is (v .c) (w .c) (both-left (same (v .c) (w .c)) (same (v .d) (w .d)) cd)) (same-is (v .d) (w .d) (both-right (same (v .c) (w .c)) (same (v .d) (w .d)) cd))
+same-bool : (a b : Bool) → T (sameBool a b) → a ≡ b
+same-bool true true t = refl
+same-bool true false t = absurd t
+same-bool false true t = absurd t
+same-bool false false t = refl
 
 same-list : (k l : List ℤ) → T (sameList k l) → k ≡ l
 same-list [] [] t = refl
@@ -98,6 +105,9 @@ claim (operator g n) t = eqb→eq (refusal (checkOf g)) n t
 claim (image g v w) t = same-point (imageOf g v) w t
 claim (line h l) t =
     example.worked h (is-true (example.boxed h) (both-left (example.boxed h) (sameList (example.listing h) l) t)) ∙ same-list (example.listing h) l (both-right (example.boxed h) (sameList (example.listing h) l) t)
+claim (job j m ps) t = whole-list j m ps t
+claim (exponent k v e) t = exponent-by k v ∙ eqb→eq (exponentBy k v) e t
+claim (asked j g w b) t = image-by j g w ∙ same-bool (isImageBy j g w) b t
 
 pub data All : List Row → Type 0 where
   none : All []
@@ -114,6 +124,18 @@ eight a b c d a′ b′ c′ d′ = record { a = a; b = b; c = c; d = d; ai = a�
 abbrev point : ℤ → ℤ → ℤ → ℤ → Point
 point a b c d = record { a = a; b = b; c = c; d = d }
 
+-- xl to xh by 0 to 0
+abbrev flatBox : ℕ → ℤ → ℤ → Region
+flatBox n l h = R.Rectangle (record { n = n; xl = l; xh = h; yl = pos 0; yh = pos 0 })
+
+abbrev rectangles : ℕ → ℕ → ℤ → ℤ → ℤ → ℤ → Job
+rectangles k n l h l′ h′ = record { k = k; a = flatBox n l h; b = flatBox 1 l′ h′ }
+
+abbrev unitDisks : Job
+unitDisks =
+    let disk = R.Ellipse (record { n = 1; cx = pos 0; cy = pos 0; p = 1; q = pos 0; r = 1; s = 1 }) in
+    record { k = 0; a = disk; b = disk }
+
 abbrev pub table : List Row
 table =
     sign (negsuc 6) (pos 5) (pos 1)
@@ -129,8 +151,15 @@ table =
     ∷ operator (eight (negsuc 0) (pos 0) (pos 1) (pos 1) (pos 1) (pos 1) (pos 1) (pos 0)) 7
     ∷ line (pos 5) (pos 0 ∷ pos 0 ∷ pos 1 ∷ pos 0 ∷ pos 1 ∷ pos 1 ∷ pos 2 ∷ pos 1 ∷ pos 2 ∷ pos 2 ∷ [])
     ∷ line (pos 6) (pos 0 ∷ pos 0 ∷ pos 1 ∷ pos 0 ∷ pos 1 ∷ pos 1 ∷ pos 2 ∷ pos 1 ∷ pos 2 ∷ pos 2 ∷ pos 3 ∷ pos 2 ∷ [])
+    ∷ job (rectangles 0 12 (pos 16) (pos 17) (negsuc 1) (negsuc 0)) 2 (point (negsuc 0) (pos 0) (pos 1) (pos 0) ∷ [])
+    ∷ job (rectangles 0 5 (pos 6) (pos 7) (negsuc 1) (negsuc 0)) 2 []
+    ∷ job (rectangles 1 1 (pos 1) (pos 2) (negsuc 1) (negsuc 0)) 2 (point (pos 0) (pos 0) (pos 0) (pos 2) ∷ [])
+    ∷ exponent 1 (point (pos 0) (pos 0) (pos 0) (pos 2)) 0
+    ∷ job (rectangles 1 1 (pos 1) (pos 2) (pos 1) (pos 2)) 2 (point (negsuc 1) (pos 0) (pos 2) (pos 0) ∷ point (negsuc 0) (pos 0) (pos 1) (pos 0) ∷ [])
+    ∷ asked unitDisks (eight (pos 0) (pos 0) (pos 0) (pos 1) (negsuc 0) (pos 1) (pos 1) (pos 0)) (point (negsuc 0) (pos 1) (pos 1) (pos 0)) true
+    ∷ asked unitDisks identity (point (negsuc 0) (pos 1) (pos 1) (pos 0)) false
     ∷ []
 
 pub worked : All table
-unfolding checkOf op.inRange evenParity special detWhole detRoot imageOf example.boxed example.listing inRange pair
+unfolding checkOf op.inRange evenParity special detWhole detRoot imageOf inverseOf adjugate times example.boxed example.listing inRange pair rank span accepted regionCheck inRangeR inRangeE reachOf sgn
 worked = all table tt
