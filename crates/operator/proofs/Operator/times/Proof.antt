@@ -58,7 +58,7 @@ returns c =
     let c1 = c2 .before .before in
     let s = c1 .before .before in
     let f = fits s in
-    rw (toZ-ofZ (s .fits .k), toZ-ofZ (f .a), toZ-ofZ (f .b), toZ-ofZ (f .c), toZ-ofZ (f .d), toZ-ofZ (f .ai), toZ-ofZ (f .bi), toZ-ofZ (f .ci), toZ-ofZ (f .di)) at
+    simp (toZ-ofZ (s .fits .k), toZ-ofZ (f .a), toZ-ofZ (f .b), toZ-ofZ (f .c), toZ-ofZ (f .d), toZ-ofZ (f .ai), toZ-ofZ (f .bi), toZ-ofZ (f .ci), toZ-ofZ (f .di)) at
     (ext (back w16 (c1 .scaled .ok) ∙ c1 .scaled .ensures) (back w16 (c2 .scaled2 .ok) ∙ c2 .scaled2 .ensures) (back w16 (c3 .scaled3 .ok) ∙ c3 .scaled3 .ensures) (back w16 (c4 .scaled4 .ok) ∙ c4 .scaled4 .ensures)
     (back w16 (c5 .scaled5 .ok) ∙ c5 .scaled5 .ensures) (back w16 (c6 .scaled6 .ok) ∙ c6 .scaled6 .ensures) (back w16 (c7 .scaled7 .ok) ∙ c7 .scaled7 .ensures) (back w16 (c .scaled8 .ok) ∙ c .scaled8 .ensures))
 

@@ -1,4 +1,6 @@
-use Rattle.operator.specs.Matrix.{at, determinantOf}
+use mathlib.Core.Path.{ap, _∙_}
+use Rattle.operator.specs.declared.Entry.{Entry}
+use Rattle.operator.specs.Matrix.{at, pairs, determinantOf}
 use Rattle.operator.specs.Determinant.{pairs-neg}
 use Rattle.operator.specs.Bounded.{neg-bounded}
 use borrow.Author.Needs.{needs}
@@ -39,7 +41,7 @@ returns : tie.Need-returns
 unfolding determinantOf
 returns c =
     let m = c .before .before .before .before .before .before .args .t1 in
-    rw (c .before .before .negated .ensures, pairs-neg (at m 0 0) (at m 1 1) (at m 0 1) (at m 1 0)) at (c .pairs .ensures)
+    c .pairs .ensures ∙ ap (λ (u : Entry). pairs (at m 0 0) (at m 1 1) u (at m 1 0)) (c .before .before .negated .ensures) ∙ pairs-neg (at m 0 0) (at m 1 1) (at m 0 1) (at m 1 0)
 
 pub determinant-spec : {M : Type 1} → statement M
 determinant-spec =
