@@ -3,3 +3,5 @@ pub mod Saturation
 pub mod Signs
 pub mod Writing
 pub mod Digits
+pub mod Words
+pub mod Hexadecimal

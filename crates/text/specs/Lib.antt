@@ -3,3 +3,5 @@ pub mod Run
 pub mod Number
 pub mod Decimal
 pub mod Written
+pub mod Wide
+pub mod Hex

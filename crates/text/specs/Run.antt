@@ -22,6 +22,10 @@ isByte b same x = cond same (eqb x b) (not (eqb x b))
 abbrev pub spacesFrom : List ℕ → ℕ → ℕ
 spacesFrom = runEnd (isByte 32 true)
 
+-- the first place at or after `at` that holds a space, or the length
+abbrev pub wordEnd : List ℕ → ℕ → ℕ
+wordEnd = runEnd (isByte 32 false)
+
 -- the first place at or after `at` that holds a line feed, or the length
 abbrev pub lineEnd : List ℕ → ℕ → ℕ
 lineEnd = runEnd (isByte 10 false)

@@ -2,7 +2,7 @@
 ghost use Prim.Native.Nat.{_+_, _^_, _≤_, min};
 ghost use mathlib.Core.Path.{_≡_};
 ghost use lib.IntN.{pos, negℤ};
-ghost use Rattle.text.specs.Run.{runEnd, isByte, spacesFrom, lineEnd};
+ghost use Rattle.text.specs.Run.{runEnd, isByte, spacesFrom, wordEnd, lineEnd};
 ghost use Rattle.text.specs.Number.{isDigit, digitsAt, withDigit, valueOf, numberFrom, numberAt};
 ghost use Rattle.text.specs.Number.{signed as Number·signed};
 
@@ -35,6 +35,13 @@ pub fn spaces_from(s: &[u8], at: usize) -> usize
     ensures { λ r. ⌜ r ≡ spacesFrom (now (s .entry)) at ⌝ }
 {
     run_end(s, at, b' ', true)
+}
+
+// The first place at or after `at` that holds a space, or the length; past the end, `at`.
+pub fn word_end(s: &[u8], at: usize) -> usize
+    ensures { λ r. ⌜ r ≡ wordEnd (now (s .entry)) at ⌝ }
+{
+    run_end(s, at, b' ', false)
 }
 
 // The first place at or after `at` that holds a line feed, or the length; past the end, `at`.

@@ -54,7 +54,7 @@ fn put_negative(out: &mut [u8], at: usize, n: u64) -> usize
 }
 
 // All of text.
-fn put_bytes(out: &mut [u8], at: usize, text: &[u8]) -> usize
+pub fn put_bytes(out: &mut [u8], at: usize, text: &[u8]) -> usize
     ensures { λ r. ⌜ (now (out .exit) ≡ written (now (out .entry)) at (now (text .entry))) × (r ≡ after (now (out .entry)) at (now (text .entry))) ⌝ }
 {
     if out.len() < at {
