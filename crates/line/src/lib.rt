@@ -9,7 +9,7 @@ ghost use Rattle.line.specs.Start.{rankOf};
 ghost use Rattle.line.specs.Next.{Near, Inside};
 ghost use Rattle.line.specs.Given.{Given};
 
-mod row;
+pub mod row;
 mod search;
 
 use search::Digits;

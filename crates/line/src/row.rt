@@ -15,7 +15,7 @@ pub struct Strip {
 }
 
 // Whether 0 ≤ p + q√2.
-fn nonneg(p: i64, q: i64) -> bool
+pub fn nonneg(p: i64, q: i64) -> bool
     ensures { λ r. ⌜ r ≡ order.nonneg (at p q) ⌝ }
 {
     let s = ring::sign_of(p, q);
@@ -27,7 +27,7 @@ fn nonneg(p: i64, q: i64) -> bool
 }
 
 // Whether lo ≤ m·(a + b√2).
-fn above(s: Strip, a: i64, b: i64) -> bool
+pub fn above(s: Strip, a: i64, b: i64) -> bool
     requires { ⌜ Small s × (natAbs a ≤ 2 ^ 41) × (natAbs b ≤ 2 ^ 41) ⌝ }
     ensures { λ r. ⌜ r ≡ above s (at a b) ⌝ }
 {
@@ -43,7 +43,7 @@ fn below(s: Strip, a: i64, b: i64) -> bool
 }
 
 // The coordinate with the digit t, where the digit h is that of 0.
-fn coordinate(h: u64, t: u64) -> i64
+pub fn coordinate(h: u64, t: u64) -> i64
     requires { ⌜ (h ≤ 2 ^ 40) × (t ≤ 2 ^ 40) ⌝ }
     ensures { λ r. ⌜ (r ≡ coordinate h t) × (natAbs r ≤ 2 ^ 41) ⌝ }
 {

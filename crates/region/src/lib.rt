@@ -7,7 +7,7 @@ ghost use Rattle.region.specs.Reach.{reachOf};
 mod exact;
 mod member;
 mod ranges;
-mod reach;
+pub mod reach;
 
 use ring::Point;
 

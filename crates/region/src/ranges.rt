@@ -62,7 +62,7 @@ impl Ellipse {
     }
 
     // PR − Q².
-    pub(crate) fn discriminant(self) -> i64
+    pub fn discriminant(self) -> i64
         ensures { λ r. ⌜ r ≡ discriminant self ⌝ }
     {
         let p = self.p as i64;

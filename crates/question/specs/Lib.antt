@@ -1,0 +1,4 @@
+pub mod Ceiling
+pub mod Reach
+pub mod Sizes
+pub mod Strips

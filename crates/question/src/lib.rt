@@ -1,0 +1,4 @@
+// Staged.
+mod exact;
+mod reach;
+mod strips;
