@@ -1,4 +1,5 @@
 // Staged.
 mod exact;
+mod lines;
 mod reach;
 mod strips;

@@ -1,0 +1,108 @@
+// A line problem: the pairs (p, q) with p + q√2 in one strip and p − q√2 in another, row by row. The pairs stand for the numbers `back` times p + q√2.
+ghost use mathlib.Core.Path.{_≡_};
+ghost use Prim.Native.Nat.{_^_, _≤_};
+ghost use lib.IntN.{pos};
+ghost use Rattle.ring.specs.RootTwo.{_⊠_};
+ghost use Rattle.region.specs.Sizes.{Sized};
+ghost use Rattle.line.specs.Row.{coordinate, lower, upper, Small, Least};
+ghost use Rattle.question.specs.Strips.{Ends};
+ghost use Rattle.question.specs.Lines.{middle, top, pairAt, joinedOf, First, Searchable, Line-of};
+use crate::exact::combined;
+use crate::exact::product;
+use crate::strips::Strips;
+use line::row;
+use line::row::Strip;
+use ring::RootTwo;
+
+// The digit of 0, and the number of digits.
+pub(crate) const HALF: u64 = 549755813888;
+
+pub(crate) const TOP: u64 = 1099511627776;
+
+pub(crate) struct Line {
+    pub first: Strip,
+    pub second: Strip,
+    pub back: RootTwo,
+    pub from: u64,
+    pub end: u64,
+}
+
+// The first digit t with lo ≤ m·(t − 2^39), or TOP, by bisection.
+fn first(s: Strip) -> u64
+    requires { ⌜ Small s ⌝ }
+    ensures { λ r. ⌜ First s r ⌝ }
+{
+    let mut lo = 0;
+    let mut hi = TOP;
+    while lo < hi {
+        let mid = lo + (hi - lo) / 2;
+        if row::above(s, row::coordinate(HALF, mid), 0) {
+            hi = mid;
+        } else {
+            lo = mid + 1;
+        }
+    }
+    hi
+}
+
+// The strip of 2p = ζ + ζ•, and so of the rows.
+fn joined(s: Strip, t: Strip) -> Strip
+    requires { ⌜ Ends s × Ends t ⌝ }
+    ensures { λ r. ⌜ r ≡ joinedOf s t ⌝ }
+{
+    Strip {
+        m: 2 * (s.m * t.m),
+        lo: combined(t.m, s.lo, s.m, t.lo),
+        hi: combined(t.m, s.hi, s.m, t.hi),
+    }
+}
+
+pub(crate) fn of_strips(s: Strips) -> Line
+    requires { ⌜ Ends (s .first) × Ends (s .second) ⌝ }
+    ensures { λ r. ⌜ Line-of s r ⌝ }
+{
+    let f = s.first;
+    let g = s.second;
+    let j = joined(f, g);
+    let h = j.hi;
+    let u = Strip {
+        m: j.m,
+        lo: h,
+        hi: h,
+    };
+    Line {
+        first: f,
+        second: g,
+        back: RootTwo { p: 1, q: 0 },
+        from: first(j),
+        end: first(u) + 1,
+    }
+}
+
+// The least digit of a row's q at which two of the four bounds hold: they hold from there on.
+pub(crate) fn start(l: Line, t: u64) -> u64
+    requires { ⌜ Searchable l × (t ≤ top) ⌝ }
+    ensures { λ r. ⌜ Least (λ q. lower (l .first) (l .second) (coordinate middle t) (coordinate middle q)) 0 top r ⌝ }
+{
+    row::least(l.first, l.second, HALF, t, 0, TOP)
+}
+
+// Whether the other two bounds hold: they hold up to some digit.
+pub(crate) fn reaches(l: Line, t: u64, q: u64) -> bool
+    requires { ⌜ Searchable l × (t ≤ top) × (q ≤ top) ⌝ }
+    ensures { λ r. ⌜ r ≡ upper (l .first) (l .second) (coordinate middle t) (coordinate middle q) ⌝ }
+{
+    row::upper(l.first, l.second, HALF, t, q)
+}
+
+// What a pair of digits stands for.
+pub(crate) fn number(l: Line, t: u64, q: u64) -> RootTwo
+    requires { ⌜ Searchable l × (t ≤ top) × (q ≤ top) ⌝ }
+    ensures { λ r. ⌜ (r ≡ l .back ⊠ pairAt t q) × Sized (2 ^ 60) (2 ^ 60) r ⌝ }
+{
+    let z = RootTwo {
+        p: row::coordinate(HALF, t),
+        q: row::coordinate(HALF, q),
+    };
+    product(l.back, z)
+}
