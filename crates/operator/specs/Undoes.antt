@@ -97,7 +97,7 @@ pub inverse-special : (g : Operator) → checkOf g ≡ Special → inverseOf g �
 unfolding inverseOf
 inverse-special g e = rw e refl
 
-inverse-is : (g h : Operator) → inverseOf g ≡ Undo h → (checkOf g ≡ Special) × (times (detWhole g) (adjugate g) ≡ h)
+pub inverse-is : (g h : Operator) → inverseOf g ≡ Undo h → (checkOf g ≡ Special) × (times (detWhole g) (adjugate g) ≡ h)
 unfolding inverseOf
 inverse-is g h e = go (checkOf g) refl e
   where

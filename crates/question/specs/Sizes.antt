@@ -1,14 +1,13 @@
 -- Sizes of sums and products in Z[√2].
-use mathlib.Core.Path.{_≡_, refl, _∙_}
+use mathlib.Core.Path.{_≡_, refl}
 use mathlib.Core.List.{[], _∷_}
 use Prim.Native.Nat.{ℕ, _+_, _*_, _^_, _≤_, _<_}
-use native.Mathlib.Nat.{mul-le-mul}
 use native.Mathlib.Omega.{arith}
 use lib.IntN.{ℤ, pos, natAbs, _+ℤ_, _*ℤ_}
 use Rattle.integers.specs.Size.{size-+, size-neg, size-*≤}
 use Rattle.ring.specs.declared.RootTwo.{RootTwo}
 use Rattle.ring.specs.RootTwo.{_⊞_, _⊠_, neg, conj, num, parts, product-parts, neg-parts, conj-parts, by-parts, poly√}
-use Rattle.region.specs.Sizes.{Sized, Room}
+use Rattle.region.specs.Sizes.{Sized}
 
 -- x y fits 64 bits
 pub record Products (x y : RootTwo) : Type 0 where

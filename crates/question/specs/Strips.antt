@@ -1,13 +1,13 @@
 -- What a region says of a coordinate ζ with √2 ζ = u X + v Y: a strip lo ≤ n ζ ≤ hi. What a job says of ζ and its conjugate: two strips.
-use mathlib.Core.Path.{_≡_, refl, sym, _∙_, ap, ap₂, subst}
+use mathlib.Core.Path.{_≡_, refl, sym, _∙_, ap, ap₂}
 use mathlib.Core.Bool.{true}
 use mathlib.Core.Logic.{inl, inr}
 use mathlib.Core.List.{[], _∷_}
-use Prim.Native.Nat.{ℕ, zero, suc, _+_, _*_, _/_, _%_, _^_, _≤_, _<_}
+use Prim.Native.Nat.{ℕ, zero, suc, _+_, _*_, _/_, _%_, _^_, _≤_}
 use native.Mathlib.Nat.{eq-zero-or-pos}
 use native.Mathlib.Omega.{arith}
 use lib.Dec.{le→leb}
-use lib.IntN.{ℤ, pos, natAbs, _+ℤ_, _*ℤ_}
+use lib.IntN.{ℤ, pos, natAbs, _*ℤ_}
 use lib.Pow.{pow-mono}
 use Rattle.integers.specs.Difference.{_≼_}
 use Rattle.integers.specs.Ring.{poly, by-ring}
@@ -22,7 +22,7 @@ use Rattle.region.specs.declared.Region.{Region}
 use Rattle.region.specs.declared.Job.{Job}
 use Rattle.region.specs.Region.{topScale, holds, solves}
 use Rattle.region.specs.Membership.{solves-true}
-use Rattle.region.specs.Over.{scale, scale-limits}
+use Rattle.region.specs.Over.{scale}
 use Rattle.region.specs.Sizes.{Sized}
 use Rattle.region.specs.Weight.{√2^-parts, even-power, weight-even}
 use Rattle.line.specs.declared.row.Strip.{Strip}
@@ -66,6 +66,7 @@ power-size k x a h s = elim (eq-zero-or-pos (k % 2)) [ inl e ↦ even e | inr l 
           p = omega (arith, size-+ (x .p *ℤ t) (pos 2 *ℤ (x .q *ℤ pos 0)), size-*≤ (x .p) t a 64 (s .p) l, size-*≤ (pos 2) (x .q *ℤ pos 0) 2 (a * 0) (omega arith) (size-*≤ (x .q) (pos 0) a 0 (s .q) (omega arith)));
           q = omega (arith, size-+ (x .p *ℤ pos 0) (x .q *ℤ t), size-*≤ (x .p) (pos 0) a 0 (s .p) (omega arith), size-*≤ (x .q) t a 64 (s .q) l);
         })
+
     odd : k % 2 ≡ 1 → Sized (a * 64) (a * 64) (x ⊠ √2^ k)
     odd e =
         let t = pos (2 ^ (k / 2)) in

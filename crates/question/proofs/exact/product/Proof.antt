@@ -8,7 +8,6 @@ use borrow.Author.Needs.{needs}
 use Rattle.integers.specs.Size.{size→fits, back}
 use Rattle.ring.specs.declared.RootTwo.{RootTwo}
 use Rattle.ring.specs.RootTwo.{ext, product-parts}
-use Rattle.question.specs.Sizes.{Products}
 use Rattle.question.proofs.exact.product.Statement.{statement}
 use Rattle.question.proofs.exact.product.Tie as tie
 

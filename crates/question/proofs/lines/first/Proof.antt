@@ -1,11 +1,9 @@
-use mathlib.Core.Path.{_≡_, sym, _∙_, ap, ap₂, subst}
-use mathlib.Core.Bool.{true, false, false≢true}
+use mathlib.Core.Path.{_≡_, sym, _∙_, ap}
+use mathlib.Core.Bool.{Bool, true, false, false≢true}
 use Prim.Native.Nat.{ℕ, _+_, _-_, _/_, _^_, _≤_, _<_}
 use native.Mathlib.Omega.{arith}
-use lib.IntN.{ℤ, pos, natAbs}
+use lib.IntN.{ℤ, pos}
 use mir.Syntax.{w64}
-use mir.Val.{toZ, ofZ}
-use borrow.Author.Needs.{needs}
 use Rattle.integers.specs.Size.{back}
 use Rattle.ring.specs.RootTwo.{num, num-parts}
 use Rattle.ring.specs.RootTwo.Order.{_⊑_, num-⊑}
@@ -17,7 +15,7 @@ use Rattle.question.proofs.lines.first.Statement.{statement}
 use Rattle.question.proofs.lines.first.Tie as tie
 
 -- lo ≤ m (t − 2^39), which holds from some t on
-abbrev test : Strip → ℕ → mathlib.Core.Bool.Bool
+abbrev test : Strip → ℕ → Bool
 test s t = above s (at (coordinate middle t) (pos 0))
 
 test-mono : (s : Strip) (t u : ℕ) → Small s → t ≤ u → test s t ≡ true → test s u ≡ true

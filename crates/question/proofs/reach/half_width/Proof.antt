@@ -1,8 +1,8 @@
-use mathlib.Core.Path.{_≡_, refl, sym, _∙_, ap, subst}
-use Prim.Native.Nat.{ℕ, _*_, _^_, _≤_}
+use mathlib.Core.Path.{_≡_, sym, _∙_, subst}
+use Prim.Native.Nat.{_*_, _^_, _≤_}
 use native.Mathlib.Nat.{mul-le-mul}
 use native.Mathlib.Omega.{arith}
-use lib.IntN.{ℤ, pos, natAbs}
+use lib.IntN.{pos, natAbs}
 use lib.Signed.{yes-nonNeg, pos-natAbs}
 use mir.Syntax.{w64}
 use mir.Val.{toZ, ofZ}
@@ -14,7 +14,7 @@ use Rattle.region.specs.declared.Ellipse.{Ellipse}
 use Rattle.region.specs.Region.{discriminant}
 use Rattle.region.specs.Accepted.{Ellipse-limits, ellipse-limits}
 use Rattle.region.specs.HalfWidth.{positive-nn, one-size}
-use Rattle.question.specs.Reach.{Half-width, widthOf, half-width-found}
+use Rattle.question.specs.Reach.{Half-width, half-width-found}
 use Rattle.question.proofs.reach.half_width.Statement.{statement}
 use Rattle.question.proofs.reach.half_width.Tie as tie
 

@@ -1,7 +1,7 @@
-use mathlib.Core.Path.{_≡_, refl, sym, _∙_, ap, ap₂, subst}
-use Prim.Native.Nat.{_^_, _≤_}
+use mathlib.Core.Path.{_≡_, refl, sym, _∙_, subst}
+use Prim.Native.Nat.{_^_}
 use native.Mathlib.Omega.{arith}
-use lib.IntN.{ℤ, pos, natAbs, _+ℤ_}
+use lib.IntN.{ℤ, pos, _+ℤ_, +ℤ-comm, +ℤ-idl}
 use mir.Syntax.{w32, w64}
 use mir.Val.{SFits, toZ, ofZ}
 use mir.Facts.{toZ-ofZ, toZ-pos, sfits-widen}
@@ -100,7 +100,7 @@ returns c =
     shifted z m = sym (simp (sum-parts, num-parts) (ext refl (zero (z .q))))
       where
         zero : (q : ℤ) → q +ℤ pos 0 ≡ q
-        zero q = lib.IntN.+ℤ-comm q (pos 0) ∙ lib.IntN.+ℤ-idl q
+        zero q = +ℤ-comm q (pos 0) ∙ +ℤ-idl q
 
 pub over-ellipse-spec : {M : Type 1} → statement M
 over-ellipse-spec =

@@ -1,4 +1,4 @@
-use mathlib.Core.Path.{_≡_, sym, _∙_, ap, ap₂, subst}
+use mathlib.Core.Path.{_≡_, sym, _∙_, subst}
 use native.Mathlib.Omega.{arith}
 use lib.IntN.{ℤ}
 use mir.Syntax.{w32, w64}
@@ -6,12 +6,10 @@ use mir.Val.{SFits, toZ, ofZ}
 use mir.Facts.{toZ-ofZ}
 use borrow.Author.Needs.{needs}
 use Rattle.integers.specs.Size.{back}
-use Rattle.ring.specs.declared.RootTwo.{RootTwo}
-use Rattle.ring.specs.RootTwo.{_⊞_, _⊠_, num}
 use Rattle.ring.specs.RootTwo.Order.{nonneg}
 use Rattle.region.specs.declared.Rectangle.{Rectangle}
 use Rattle.region.specs.declared.Region.the-variants as R
-use Rattle.region.specs.Accepted.{Rectangle-limits, rectangle-limits}
+use Rattle.region.specs.Accepted.{rectangle-limits}
 use Rattle.region.specs.Sizes.{room}
 use Rattle.question.specs.Reach.{Reaches, farEnd, far-size, rectangle-reaches}
 use Rattle.question.proofs.reach.over_rectangle.Statement.{statement}

@@ -1,4 +1,4 @@
-use mathlib.Core.Path.{_≡_, sym, _∙_, ap, ap₂, subst}
+use mathlib.Core.Path.{_≡_, sym, _∙_, subst}
 use Prim.Native.Nat.{_≤_, _^_}
 use native.Mathlib.Omega.{arith}
 use lib.IntN.{ℤ, pos, negsuc, natAbs, _*ℤ_}
@@ -13,7 +13,7 @@ use Rattle.region.specs.declared.Ellipse.{Ellipse}
 use Rattle.region.specs.Accepted.{Ellipse-limits, ellipse-limits}
 use Rattle.region.specs.Sizes.{Sized, room}
 use Rattle.question.specs.Sizes.{products, product-size, combined-size}
-use Rattle.question.specs.Reach.{widthOf, width-is}
+use Rattle.question.specs.Reach.{width-is}
 use Rattle.question.proofs.reach.width.Statement.{statement}
 use Rattle.question.proofs.reach.width.Tie as tie
 

@@ -1,5 +1,4 @@
-use mathlib.Core.Path.{_≡_, sym, subst, subst₂}
-use borrow.Author.Needs.{needs}
+use mathlib.Core.Path.{subst, subst₂}
 use Rattle.region.specs.Around.{accepted-job-parts}
 use Rattle.question.specs.Strips.{Strip-of, strips-of}
 use Rattle.question.proofs.strips.of_job.Statement.{statement}
