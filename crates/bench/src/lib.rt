@@ -1,0 +1,25 @@
+// The bench keeps one session, and each call moves that session on: document 01, "The walk". Each call is lent the session, calls the one of `session`
+// that takes it by value, and has the same contract.
+ghost use mathlib.Core.List.{[]};
+ghost use Rattle.calls.specs.Session.{rewind as rewinding, clear as clearing};
+ghost use Rattle.session.specs.Session.{Steps};
+use session::Answer;
+use session::Session;
+
+// Back before the first point.
+pub fn rewind(s: &mut Session) -> Answer
+    ensures { λ r. ⌜ Steps rewinding [] (now (s .entry)) (now (s .exit)) r ⌝ }
+{
+    let r = session::rewind(*s);
+    *s = r.session;
+    r.answer
+}
+
+// A fresh session again.
+pub fn clear(s: &mut Session) -> Answer
+    ensures { λ r. ⌜ Steps clearing [] (now (s .entry)) (now (s .exit)) r ⌝ }
+{
+    let r = session::clear(*s);
+    *s = r.session;
+    r.answer
+}
