@@ -24,9 +24,7 @@ use denote.Memory.{mem}
 use denote.Ref.{RefT, MutRef, ptr-vals, mut-tells}
 use denote.Builtin.{RefMutOf}
 use denote.Signature.{plain}
-use denote.Steps.{opens, closes, owned, peeks, heard, nothing}
-use denote.Struct.Steps.{spelt}
-use denote.Struct.Laws as LL
+use denote.Steps.{owned, peeks, heard, nothing}
 use denote.Exit.{yes}
 use denote.Triple.Statement.{Contract, Triple}
 use denote.Triple.Call.{calls-at}
@@ -43,7 +41,8 @@ use Rattle.session.proofs.Outcome as O
 use Rattle.session.proofs.Outcome.Laws as O′
 use Rattle.session.proofs.Answer as Ans
 use Rattle.session.proofs.Answer.Laws as Ans′
-use Rattle.bench.proofs.Types.{val, is-session, is-answer, outcome-val, session-typed, outcome-typed, answer-typed, session-makes, answer-makes, &Session, stores}
+use Rattle.bench.proofs.Types.{val, is-session, is-answer, outcome-val, session-typed, outcome-typed, answer-typed, answer-makes, &Session, stores}
+use Rattle.bench.proofs.Steps.{opens-session, closes-session}
 
 abbrev pub function : Name → Fn
 function f = record {
@@ -105,8 +104,7 @@ module _ (f : Name) (Does : Session → Session → Answer → Type 0) {M : Type
           qed W ((‵ (flft κ q) ⊛ ‵ ftrue) ∷ ‵ (owns (MutRef (named 0) κ S.the-row ∷ []) x at) ∷ []) ∵ split ! $ move ! (2 ∷ []) $ fsplit ! $ fsplit3 ! $ drop ! $ move ! (0 ∷ 1 ∷ 3 ∷ []) $
           enter ! C Λ (function f) (vptr b o ∷ []) _ $
           alloc1 ! (λ l₀. alloc1 ! (λ l₁. alloc1 ! (λ l₂. alloc1 ! (λ l₃. alloc0 ! $ params1 ! $ pass1 ! (init ! 4 refl (tt, tt)) $ pass0 ! $
-          move ! (8 ∷ 9 ∷ 10 ∷ []) $ opens ! tt S.the-row {h = h} b o (λ vs. spelt ! S.the-row (Is S.the-row) (shows 𝓤 H A S.the-row) (LL.vals S.the-type S′.the-laws) (LL.tells S.the-type S′.the-laws) fullShare h vs b o $
-          move ! (1 ∷ []) $ peeks ! S.the-row (Is S.the-row) (shows 𝓤 H A S.the-row) h (val h ∷ []) (λ is. move ! (1 ∷ 0 ∷ []) $
+          move ! (8 ∷ 9 ∷ 10 ∷ []) $ opens-session ! tt h b o (λ is.
           -- [the session's cell; what it owns; the open borrow; obs; auth; _3; …; _2; …; _1; …; _0; …]
           assigns ! (of-opd ! (load ! (from ! (hop ! (look ! 9 refl) (stop !))) (look-raw ! 0 refl))) (from ! (stop !)) (init ! 5 refl (session-typed 𝓤 H A W h _ is)) $
           move ! (1 ∷ []) $ use1 W (raw (ByValue .pre passed)) passes $
@@ -118,10 +116,10 @@ module _ (f : Name) (Does : Session → Session → Answer → Type 0) {M : Type
           land ! (from ! (stop !)) (init ! 7 refl (outcome-typed 𝓤 H A W r v is′)) $ rewrite ! 7 (λ (u : Val). ‵ (fat fullShare O′.mir l₂ 0 u)) (outcome-val r v is′) refl $ drop ! $
           assigns ! (of-opd ! (load ! (from ! (fld ! refl (stop !))) (look-in ! 6 (sub ! 0 refl (whole !))))) (from ! (hop ! (look ! 8 refl) (stop !))) (store-raw ! 0 refl (session-typed 𝓤 H A W (r .session) _ (is-session r v is′))) $
           assigns ! (of-opd ! (load ! (from ! (fld ! refl (stop !))) (look-in ! 6 (sub ! 1 refl (whole !))))) (from ! (stop !)) (init ! 10 refl (answer-typed 𝓤 H A W (r .answer) _ (is-answer r v is′))) $
-          owned ! S.the-row (Is S.the-row) (session-makes 𝓤 H A W) (r .session) _ (is-session r v is′) $ move ! (1 ∷ 0 ∷ []) $ closes ! tt S.the-row (r .session) (val (r .session) ∷ []) b o $
+          closes-session ! tt (r .session) (is-session r v is′) b o $
           -- [obs; the borrow; the token; _3; …; _2; …; _1; …; _0; …]
           returns ! (look ! 9 refl) $ forget ! 3 refl $ forget ! 5 refl $ forget ! 7 refl $ forget ! 9 refl $ move ! (9 ∷ 10 ∷ []) $ free1 ! $ move ! (7 ∷ 8 ∷ []) $ free1 ! $ move ! (5 ∷ 6 ∷ []) $ free1 ! $ move ! (3 ∷ 4 ∷ []) $ free1 ! $ free0 ! $
-          owned ! Ans.the-row (Is Ans.the-row) (answer-makes 𝓤 H A W) (r .answer) _ (is-answer r v is′) $ keep ! (1 ∷ 2 ∷ 3 ∷ 0 ∷ []) $ by ! (exits r _ e)))))))))))
+          owned ! Ans.the-row (Is Ans.the-row) (answer-makes 𝓤 H A W) (r .answer) _ (is-answer r v is′) $ keep ! (1 ∷ 2 ∷ 3 ∷ 0 ∷ []) $ by ! (exits r _ e))))))))))
 
   pub lent : (𝓣 : Tables 𝓤 H) → Triple 𝓤 (𝓣 .C f) ByValue → Meets 𝓤 H A (lent-ended .signature) (WpFn 𝓤 H (𝓣 .C) (𝓣 .Λ) (function f)) (closing 𝓤 H A lent-ended lent-clauses)
   lent 𝓣 known = walk-meets 𝓤 H A lent-ended stayed W (goes-ref 𝓤 H A W 1 0 tt (plain (λ _. S.the-row)), tt) lent-clauses (WpFn 𝓤 H (𝓣 .C) (𝓣 .Λ) (function f)) (WpFn-mono 𝓤 H (W .laws) 𝓣 (function f))

@@ -1,2 +1,4 @@
 pub mod Types
+pub mod Steps
 pub mod Lent
+pub mod LentBytes

@@ -1,10 +1,19 @@
 // The bench keeps one session, and each call moves that session on: document 01, "The walk". Each call is lent the session, calls the one of `session`
 // that takes it by value, and has the same contract.
 ghost use mathlib.Core.List.{[]};
-ghost use Rattle.calls.specs.Session.{rewind as rewinding, clear as clearing};
+ghost use Rattle.calls.specs.Session.{reading, rewind as rewinding, clear as clearing};
 ghost use Rattle.session.specs.Session.{Steps};
 use session::Answer;
 use session::Session;
+
+// One reading: a record from the front of the bytes joins the session, or is refused.
+pub fn read(s: &mut Session, bytes: &[u8]) -> Answer
+    ensures { λ r. ⌜ Steps (reading (now (bytes .entry))) [] (now (s .entry)) (now (s .exit)) r ⌝ }
+{
+    let r = session::read(*s, bytes);
+    *s = r.session;
+    r.answer
+}
 
 // Back before the first point.
 pub fn rewind(s: &mut Session) -> Answer
