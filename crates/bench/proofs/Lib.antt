@@ -2,3 +2,4 @@ pub mod Types
 pub mod Steps
 pub mod Lent
 pub mod LentBytes
+pub mod LentNumbers

@@ -2,7 +2,7 @@
 // that takes it by value, and has the same contract.
 ghost use mathlib.Core.List.{[]};
 ghost use Rattle.calls.specs.Session.{reading, rewind as rewinding, clear as clearing};
-ghost use Rattle.session.specs.Session.{Steps};
+ghost use Rattle.session.specs.Session.{Steps, Hands};
 use session::Answer;
 use session::Session;
 
@@ -11,6 +11,15 @@ pub fn read(s: &mut Session, bytes: &[u8]) -> Answer
     ensures { λ r. ⌜ Steps (reading (now (bytes .entry))) [] (now (s .entry)) (now (s .exit)) r ⌝ }
 {
     let r = session::read(*s, bytes);
+    *s = r.session;
+    r.answer
+}
+
+// A hand-out: as many of the next solutions as the slice has space for.
+pub fn hand_out(s: &mut Session, out: &mut [i32]) -> Answer
+    ensures { λ r. ⌜ Hands (now (s .entry)) (now (out .entry)) (now (out .exit)) (now (s .exit)) r ⌝ }
+{
+    let r = session::hand_out(*s, out);
     *s = r.session;
     r.answer
 }
