@@ -56,7 +56,7 @@ function f = record {
   lifetimes = 2;
   outlives = [];
   params = 2;
-  locals = local Ans′.mir valueLocal ∷ local &Session valueLocal ∷ local (sliceTy (&i32 (named 1))) valueLocal ∷ local O′.mir valueLocal ∷ local S′.mir valueLocal ∷ local (&i32 erased) valueLocal ∷ local (sliceTy (&i32 erased)) valueLocal ∷ [];
+  locals = local Ans′.mir valueLocal ∷ local (&Session mut) valueLocal ∷ local (sliceTy (&i32 (named 1))) valueLocal ∷ local O′.mir valueLocal ∷ local S′.mir valueLocal ∷ local (&i32 erased) valueLocal ∷ local (sliceTy (&i32 erased)) valueLocal ∷ [];
   body = seq (assign (place 4 []) (rvOpd (copy (place 1 (deref S′.mir ∷ []))))) (seq (assign (place 5 []) (addrOf (place 2 (field 0 ∷ deref (tyInt w32) ∷ []))))
       (seq (assign (place 6 []) (aggregate (copy (place 5 []) ∷ copy (place 2 (field 1 ∷ [])) ∷ []))) (seq (call f (copy (place 4 []) ∷ copy (place 6 []) ∷ []) (place 3 [])) (stores 3))));
 }

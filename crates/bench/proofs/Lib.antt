@@ -3,3 +3,4 @@ pub mod Steps
 pub mod Lent
 pub mod LentBytes
 pub mod LentNumbers
+pub mod Shared

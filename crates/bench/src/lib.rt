@@ -1,7 +1,7 @@
 // The bench keeps one session, and each call moves that session on: document 01, "The walk". Each call is lent the session, calls the one of `session`
 // that takes it by value, and has the same contract.
 ghost use mathlib.Core.List.{[]};
-ghost use Rattle.calls.specs.Session.{reading, rewind as rewinding, clear as clearing};
+ghost use Rattle.calls.specs.Session.{reading, rewind as rewinding, clear as clearing, plain};
 ghost use Rattle.session.specs.Session.{Steps, Hands};
 use session::Answer;
 use session::Session;
@@ -40,4 +40,11 @@ pub fn clear(s: &mut Session) -> Answer
     let r = session::clear(*s);
     *s = r.session;
     r.answer
+}
+
+// Whether the job has a solution.
+pub fn has_solution(s: &Session) -> Answer
+    ensures { λ r. ⌜ Steps plain [] (now (s .entry)) (now (s .entry)) r ⌝ }
+{
+    session::has_solution(*s)
 }
