@@ -4,3 +4,4 @@ pub mod Lent
 pub mod LentBytes
 pub mod LentNumbers
 pub mod Shared
+pub mod SharedPoint

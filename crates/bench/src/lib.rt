@@ -1,8 +1,9 @@
 // The bench keeps one session, and each call moves that session on: document 01, "The walk". Each call is lent the session, calls the one of `session`
 // that takes it by value, and has the same contract.
 ghost use mathlib.Core.List.{[]};
-ghost use Rattle.calls.specs.Session.{reading, rewind as rewinding, clear as clearing, plain};
+ghost use Rattle.calls.specs.Session.{reading, rewind as rewinding, clear as clearing, plain, imageOf};
 ghost use Rattle.session.specs.Session.{Steps, Hands};
+use ring::Point;
 use session::Answer;
 use session::Session;
 
@@ -47,4 +48,11 @@ pub fn has_solution(s: &Session) -> Answer
     ensures { λ r. ⌜ Steps plain [] (now (s .entry)) (now (s .entry)) r ⌝ }
 {
     session::has_solution(*s)
+}
+
+// Whether w is what the remembered operator makes of a solution.
+pub fn has_image(s: &Session, w: Point) -> Answer
+    ensures { λ r. ⌜ Steps (imageOf w) [] (now (s .entry)) (now (s .entry)) r ⌝ }
+{
+    session::has_image(*s, w)
 }
