@@ -139,7 +139,7 @@ pub fn has_solution(s: Session) -> Answer
         Stage::Fresh => Answer::Refused(Refusal::NoJob),
         Stage::Scaled(_) => Answer::Refused(Refusal::NoJob),
         Stage::First(_, _) => Answer::Refused(Refusal::NoJob),
-        Stage::Walking(c) => Answer::Says(place::is_solvable(c.job)),
+        Stage::Walking(c) => Answer::Says(question::has_solution(c.job, c.operator)),
     }
 }
 

@@ -1,10 +1,9 @@
 // The place of a session's walk.
 ghost use mathlib.Core.Path.{_≡_};
-ghost use mathlib.Core.Bool.{not};
 ghost use mathlib.Core.List.{[]};
 ghost use Rattle.calls.specs.Session.{step, rewind};
-ghost use Rattle.ranks.specs.Rest.{at, isEnded, isNil};
-ghost use Rattle.walk.specs.Walk.{rankOf, spotOf, full};
+ghost use Rattle.ranks.specs.Rest.{at, isEnded};
+ghost use Rattle.walk.specs.Walk.{spotOf};
 ghost use Rattle.session.specs.World.{world};
 ghost use Rattle.session.specs.Session.{courseOf, outcome};
 use crate::Answer;
@@ -12,30 +11,22 @@ use crate::Course;
 use crate::Outcome;
 use crate::Session;
 use crate::Stage;
-use region::Job;
 use ring::Point;
 use walk::Spot;
 
 // No coordinate is less.
 const LEAST: i32 = -2147483648;
 
-// The first of all points.
-fn first() -> Point
-    ensures { λ r. ⌜ rankOf r ≡ 0 ⌝ }
-{
-    Point {
-        a: LEAST,
-        b: LEAST,
-        c: LEAST,
-        d: LEAST,
-    }
-}
-
 // Before the first solution of any job.
 pub(crate) fn before_all() -> Spot
     ensures { λ r. ⌜ spotOf r ≡ at 0 ⌝ }
 {
-    Spot::At(first())
+    Spot::At(Point {
+        a: LEAST,
+        b: LEAST,
+        c: LEAST,
+        d: LEAST,
+    })
 }
 
 pub(crate) fn is_ended(p: Spot) -> bool
@@ -62,11 +53,4 @@ pub(crate) fn rewound(c: Course) -> Outcome
         },
         answer: Answer::Done,
     }
-}
-
-// Whether the job has a solution.
-pub(crate) fn is_solvable(job: Job) -> bool
-    ensures { λ r. ⌜ r ≡ not (isNil (full job)) ⌝ }
-{
-    !is_ended(walk::least(job, first()))
 }

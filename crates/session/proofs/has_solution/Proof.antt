@@ -5,7 +5,7 @@ use Rattle.session.proofs.has_solution.Statement.{statement}
 use Rattle.session.proofs.has_solution.Tie as tie
 use Rattle.session.proofs.has_solution.Reads as reads
 use Rattle.session.proofs.has_solution.Lts as lts
-use Rattle.session.proofs.place.is_solvable.Reads as is-solvable-reads
+use Rattle.question.proofs.has_solution.Reads as has-solution-reads
 
 -- src/lib.rt:135:45
 enum-told : tie.Need-enum-told
@@ -24,8 +24,8 @@ enum-known-g : tie.Need-enum-known-g
 enum-known-g c = search needs
 
 -- src/lib.rt:138:47
-is-solvable-requires : tie.Need-is-solvable-requires
-is-solvable-requires c κs = search needs
+has-solution-requires : tie.Need-has-solution-requires
+has-solution-requires c κs = search needs
 
 -- src/lib.rt:130:1
 returns : tie.Need-returns
@@ -42,7 +42,7 @@ returns-3 c = rw (c .enum-told3 .given .1) refl
 -- src/lib.rt:130:1
 returns-4 : tie.Need-returns-4
 unfolding full
-returns-4 c = rw (c .before .before .g .given .1, c .is-solvable .ensures) refl
+returns-4 c = rw (c .before .before .g .given .1, c .has-solution .ensures) refl
 
 pub has-solution-spec : {M : Type 1} → statement M
 has-solution-spec =
@@ -52,7 +52,7 @@ has-solution-spec =
     enum-told-2
     enum-told-3
     enum-known-g
-    is-solvable-requires
+    has-solution-requires
     returns
     returns-2
     returns-3
