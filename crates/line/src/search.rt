@@ -106,7 +106,7 @@ fn last_row(s: Strip, t: Strip) -> u64
 }
 
 // Where the search after a place begins.
-pub fn start(first: Interval, second: Interval, place: Place) -> Digits
+pub(crate) fn start(first: Interval, second: Interval, place: Place) -> Digits
     requires { ⌜ accepted first second ≡ true ⌝ }
     ensures { λ r. ⌜ Begins first second place r ⌝ }
 {
@@ -119,7 +119,7 @@ pub fn start(first: Interval, second: Interval, place: Place) -> Digits
 }
 
 // The first pair from p on.
-pub fn next(first: Interval, second: Interval, p: Digits) -> Spot
+pub(crate) fn next(first: Interval, second: Interval, p: Digits) -> Spot
     requires { ⌜ (accepted first second ≡ true) × Near p ⌝ }
     ensures { λ r. ⌜ Next first second (rankOf p) r ⌝ }
 {

@@ -10,14 +10,14 @@ fn wide(x: u8) -> u32
     x as u32
 }
 
-pub fn u16_at(s: &[u8], k: usize) -> u16
+pub(crate) fn u16_at(s: &[u8], k: usize) -> u16
     requires { ⌜ k + 2 ≤ length (now s) ⌝ }
     ensures { λ r. ⌜ r ≡ unsignedAt 2 (now (s .entry)) k ⌝ }
 {
     (wide(s[k]) + 256 * wide(s[k + 1])) as u16
 }
 
-pub fn u32_at(s: &[u8], k: usize) -> u32
+pub(crate) fn u32_at(s: &[u8], k: usize) -> u32
     requires { ⌜ k + 4 ≤ length (now s) ⌝ }
     ensures { λ r. ⌜ r ≡ unsignedAt 4 (now (s .entry)) k ⌝ }
 {
@@ -45,14 +45,14 @@ fn signed32(u: u32) -> i32
     }
 }
 
-pub fn i16_at(s: &[u8], k: usize) -> i16
+pub(crate) fn i16_at(s: &[u8], k: usize) -> i16
     requires { ⌜ k + 2 ≤ length (now s) ⌝ }
     ensures { λ r. ⌜ r ≡ signedAt 2 (now (s .entry)) k ⌝ }
 {
     signed16(u16_at(s, k))
 }
 
-pub fn i32_at(s: &[u8], k: usize) -> i32
+pub(crate) fn i32_at(s: &[u8], k: usize) -> i32
     requires { ⌜ k + 4 ≤ length (now s) ⌝ }
     ensures { λ r. ⌜ r ≡ signedAt 4 (now (s .entry)) k ⌝ }
 {
