@@ -1,5 +1,5 @@
--- A call that is lent the session alone:     fn F(s: &mut Session) -> Answer { let r = f(*s); *s = r.session; r.answer }
---     Does     what both contracts say: of the session before, the session after and the answer
+-- A call that is lent a value:     fn F(s: &mut S) -> R { let r = f(*s); *s = r.first; r.second }
+--     Does     what both contracts say: of the value before, the value after and the answer
 -- Assumes `Given`.
 use mathlib.Core.Path.{refl}
 use Prim.Native.Nat.{ℕ}
@@ -22,8 +22,7 @@ use denote.RattleType.{owns}
 use denote.Laws.{Is, shows}
 use denote.Memory.{mem}
 use denote.Ref.{RefT, MutRef, ptr-vals, mut-tells}
-use denote.Builtin.{RefMutOf}
-use denote.Signature.{plain}
+use denote.Signature.{plain, mutRefTo}
 use denote.Steps.{owned, peeks, heard, nothing}
 use denote.Exit.{yes}
 use denote.Triple.Statement.{Contract, Triple}
@@ -32,96 +31,88 @@ use denote.Triple.Entry.{onEntry}
 use denote.Triple.Spec.{Meets, tripleOf}
 use denote.Triple.Walked.{says, Stays, stay-ref, walkOf, goes-ref, ends-at, walked, walk-meets}
 use denote.Triple.Clauses.{Ended, Clauses, closing, ensured, lasts}
-use Rattle.session.specs.declared.Session.{Session}
-use Rattle.session.specs.declared.Outcome.{Outcome}
-use Rattle.session.specs.declared.Answer.{Answer}
-use Rattle.session.proofs.Session as S
-use Rattle.session.proofs.Session.Laws as S′
-use Rattle.session.proofs.Outcome as O
-use Rattle.session.proofs.Outcome.Laws as O′
-use Rattle.session.proofs.Answer as Ans
-use Rattle.session.proofs.Answer.Laws as Ans′
-use Rattle.bench.proofs.Types.{val, is-session, is-answer, outcome-val, session-typed, outcome-typed, answer-typed, answer-makes, &Session, stores}
-use Rattle.bench.proofs.Steps.{opens-session, closes-session}
+use Rattle.bench.proofs.Data.{Datum, Value, &, Pair, pair-ty, stores}
+use Rattle.bench.proofs.Steps.{opens-datum, closes-datum}
 
-abbrev pub function : Name → Fn
-function f = record {
-  lifetimes = 1;
-  outlives = [];
-  params = 1;
-  locals = local Ans′.mir valueLocal ∷ local (&Session mut) valueLocal ∷ local O′.mir valueLocal ∷ local S′.mir valueLocal ∷ [];
-  body = seq (assign (place 3 []) (rvOpd (copy (place 1 (deref S′.mir ∷ []))))) (seq (call f (copy (place 3 []) ∷ []) (place 2 [])) (stores 2));
-}
+module _ {S R : Datum} (O : Pair S R) where
+  abbrev function : Name → Fn
+  function f = record {
+    lifetimes = 1;
+    outlives = [];
+    params = 1;
+    locals = local (R .ty) valueLocal ∷ local (& mut S) valueLocal ∷ local (pair-ty O) valueLocal ∷ local (S .ty) valueLocal ∷ [];
+    body = seq (assign (place 3 []) (rvOpd (copy (place 1 (deref (S .ty) ∷ []))))) (seq (call f (copy (place 3 []) ∷ []) (place 2 [])) (stores S 2));
+  }
 
-abbrev lent-ended : Ended
-lent-ended = record { signature = record { lifetimes = 1; outlives = []; params = RefMutOf (0 ∷ []) tt (plain (λ _. S.the-row)) (λ _. tt) ∷ []; result = plain (λ _. Ans.the-row) }; kept = (yes, tt) }
+  abbrev lent-ended : Ended
+  lent-ended = record { signature = record { lifetimes = 1; outlives = []; params = mutRefTo (0 ∷ []) tt (plain (λ _. S .row)) ∷ []; result = plain (λ _. R .row) }; kept = (yes, tt) }
 
-abbrev value-ended : Ended
-value-ended = record { signature = record { lifetimes = 0; outlives = []; params = plain (λ _. S.the-row) ∷ []; result = plain (λ _. O.the-row) }; kept = (yes, tt) }
+  abbrev value-ended : Ended
+  value-ended = record { signature = record { lifetimes = 0; outlives = []; params = plain (λ _. S .row) ∷ []; result = plain (λ _. O .row) }; kept = (yes, tt) }
 
-abbrev stayed : Stays (lent-ended .signature .params) (lent-ended .kept)
-stayed = (stay-ref (0 ∷ []) tt (plain (λ _. S.the-row)), tt)
+  abbrev stayed : Stays (lent-ended .signature .params) (lent-ended .kept)
+  stayed = (stay-ref (0 ∷ []) tt (plain (λ _. S .row)), tt)
 
-module _ (f : Name) (Does : Session → Session → Answer → Type 0) {M : Type 1} (𝓤 : URA M) (H : Heap 𝓤) (A : Atoms 𝓤) (W : Given 𝓤 H A) where
-  abbrev lent-clauses : Clauses 𝓤 lent-ended
-  lent-clauses κs a = record { ghost = Unit {0}; requires = λ _. emp 𝓤; ensures = λ _ r e. fact 𝓤 (Does (a .0 .now) (e .0 .now) r) }
+  module _ (f : Name) (Does : Value S → Value S → Value R → Type 0) {M : Type 1} (𝓤 : URA M) (H : Heap 𝓤) (A : Atoms 𝓤) (W : Given 𝓤 H A) where
+    abbrev lent-clauses : Clauses 𝓤 lent-ended
+    lent-clauses κs a = record { ghost = Unit {0}; requires = λ _. emp 𝓤; ensures = λ _ r e. fact 𝓤 (Does (a .0 .now) (e .0 .now) r) }
 
-  abbrev value-clauses : Clauses 𝓤 value-ended
-  value-clauses κs a = record { ghost = Unit {0}; requires = λ _. emp 𝓤; ensures = λ _ r e. fact 𝓤 (Does (a .0) (r .session) (r .answer)) }
+    abbrev value-clauses : Clauses 𝓤 value-ended
+    value-clauses κs a = record { ghost = Unit {0}; requires = λ _. emp 𝓤; ensures = λ _ r e. fact 𝓤 (Does (a .0) (O .first r) (O .second r)) }
 
-  abbrev ByValue : Contract 𝓤
-  ByValue = tripleOf 𝓤 H A (value-ended .signature) (closing 𝓤 H A value-ended value-clauses)
+    abbrev ByValue : Contract 𝓤
+    ByValue = tripleOf 𝓤 H A (value-ended .signature) (closing 𝓤 H A value-ended value-clauses)
 
-  does : (h : Session) (r : Outcome) → ent 𝓤 (ensured 𝓤 H A value-ended value-clauses tt (h, tt) tt r) (fact 𝓤 (Does h (r .session) (r .answer)))
-  does h r = exE 𝓤 _ (λ ws. snd∗ 𝓤 (sem 𝓤 H A (lasts value-ended tt (h, tt) ws)) (fact 𝓤 (Does h (r .session) (r .answer))))
+    does : (h : Value S) (r : O .row .Denot) → ent 𝓤 (ensured 𝓤 H A value-ended value-clauses tt (h, tt) tt r) (fact 𝓤 (Does h (O .first r) (O .second r)))
+    does h r = exE 𝓤 _ (λ ws. snd∗ 𝓤 (sem 𝓤 H A (lasts value-ended tt (h, tt) ws)) (fact 𝓤 (Does h (O .first r) (O .second r))))
 
-  module _ (κ : Lft) (q : Share) (b o : ℕ) (γ : GName) (h : Session) where
-    abbrev x : RefT Session × Unit {0}
-    x = (record { ptr = (b, o); name = γ; now = h }, tt)
+    module _ (κ : Lft) (q : Share) (b o : ℕ) (γ : GName) (h : Value S) where
+      abbrev x : RefT (Value S) × Unit {0}
+      x = (record { ptr = (b, o); name = γ; now = h }, tt)
 
-    abbrev at : List Val × Unit {0}
-    at = (vptr b o ∷ [], tt)
+      abbrev at : List Val × Unit {0}
+      at = (vptr b o ∷ [], tt)
 
-    abbrev Post : Val → SProp 𝓤
-    Post = walkOf 𝓤 H A lent-ended stayed lent-clauses .post (((κ, tt), (q, tt), tt, x, at), tt)
+      abbrev Post : Val → SProp 𝓤
+      Post = walkOf 𝓤 H A lent-ended stayed lent-clauses .post (((κ, tt), (q, tt), tt, x, at), tt)
 
-    exits : (r : Outcome) (w : Val) → Does h (r .session) (r .answer)
-        → ent 𝓤 (⋆ 𝓤 H A (‵ (fobs γ (S.the-row .coded .code (r .session))) ∷ ‵ (fbor κ (Body (mem S.the-row) b o γ)) ∷ ‵ (flft κ q) ∷ ‵ (Ans.the-row .own (r .answer) (w ∷ [])) ∷ [])) (Post w)
-    exits r w e =
-        qed W (‵ (fobs γ (S.the-row .coded .code (r .session))) ∷ ‵ (fbor κ (Body (mem S.the-row) b o γ)) ∷ ‵ (flft κ q) ∷ ‵ (Ans.the-row .own (r .answer) (w ∷ [])) ∷ []) ∵
-        suffices ! _ (ends-at 𝓤 H A lent-ended stayed lent-clauses W (((κ, tt), (q, tt), tt, x, at), tt) w (r .answer) (r .session, tt) (tt, tt)) $ says ! e $ nothing ! $ move ! (3 ∷ 0 ∷ []) $ join ! $
-        frame ! $ feqI ! (List Val) (vptr b o ∷ []) (vptr b o ∷ []) refl $ fjoin3 ! $ nothing ! $ move ! (1 ∷ 0 ∷ []) $ fjoin ! $ frame ! $ done !
+      exits : (r : O .row .Denot) (w : Val) → Does h (O .first r) (O .second r)
+          → ent 𝓤 (⋆ 𝓤 H A (‵ (fobs γ (S .row .coded .code (O .first r))) ∷ ‵ (fbor κ (Body (mem (S .row)) b o γ)) ∷ ‵ (flft κ q) ∷ ‵ (R .row .own (O .second r) (w ∷ [])) ∷ [])) (Post w)
+      exits r w e =
+          qed W (‵ (fobs γ (S .row .coded .code (O .first r))) ∷ ‵ (fbor κ (Body (mem (S .row)) b o γ)) ∷ ‵ (flft κ q) ∷ ‵ (R .row .own (O .second r) (w ∷ [])) ∷ []) ∵
+          suffices ! _ (ends-at 𝓤 H A lent-ended stayed lent-clauses W (((κ, tt), (q, tt), tt, x, at), tt) w (O .second r) (O .first r, tt) (tt, tt)) $ says ! e $ nothing ! $ move ! (3 ∷ 0 ∷ []) $ join ! $
+          frame ! $ feqI ! (List Val) (vptr b o ∷ []) (vptr b o ∷ []) refl $ fjoin3 ! $ nothing ! $ move ! (1 ∷ 0 ∷ []) $ fjoin ! $ frame ! $ done !
 
-    abbrev passed : ByValue .Ghost
-    passed = ((tt, tt, tt, (h, tt), (val h ∷ [], tt)), tt)
+      abbrev passed : ByValue .Ghost
+      passed = ((tt, tt, tt, (h, tt), (S .val h ∷ [], tt)), tt)
 
-    passes : ent 𝓤 (sem 𝓤 H A (S.the-row .own h (val h ∷ []))) (ByValue .pre passed)
-    passes = qed W (‵ (S.the-row .own h (val h ∷ [])) ∷ []) ∵ nothing ! $ move ! (1 ∷ 0 ∷ []) $ join ! $ nothing ! $ join ! $ frame ! $ done !
+      passes : ent 𝓤 (sem 𝓤 H A (S .row .own h (S .val h ∷ []))) (ByValue .pre passed)
+      passes = qed W (‵ (S .row .own h (S .val h ∷ [])) ∷ []) ∵ nothing ! $ move ! (1 ∷ 0 ∷ []) $ join ! $ nothing ! $ join ! $ frame ! $ done !
 
-    module _ (C : Calls 𝓤 H) (Λ : Loops 𝓤 H) (fm : FmC 𝓤 H (W .laws) C) (known : Triple 𝓤 (C f) ByValue) where
-      walk : ent 𝓤 (onEntry 𝓤 H A (lent-ended .signature) (κ, tt) (q, tt) x at) (WpFn 𝓤 H C Λ (function f) (vptr b o ∷ []) Post)
-      walk =
-          qed W ((‵ (flft κ q) ⊛ ‵ ftrue) ∷ ‵ (owns (MutRef (named 0) κ S.the-row ∷ []) x at) ∷ []) ∵ split ! $ move ! (2 ∷ []) $ fsplit ! $ fsplit3 ! $ drop ! $ move ! (0 ∷ 1 ∷ 3 ∷ []) $
-          enter ! C Λ (function f) (vptr b o ∷ []) _ $
-          alloc1 ! (λ l₀. alloc1 ! (λ l₁. alloc1 ! (λ l₂. alloc1 ! (λ l₃. alloc0 ! $ params1 ! $ pass1 ! (init ! 4 refl (tt, tt)) $ pass0 ! $
-          move ! (8 ∷ 9 ∷ 10 ∷ []) $ opens-session ! tt h b o (λ is.
-          -- [the session's cell; what it owns; the open borrow; obs; auth; _3; …; _2; …; _1; …; _0; …]
-          assigns ! (of-opd ! (load ! (from ! (hop ! (look ! 9 refl) (stop !))) (look-raw ! 0 refl))) (from ! (stop !)) (init ! 5 refl (session-typed 𝓤 H A W h _ is)) $
-          move ! (1 ∷ []) $ use1 W (raw (ByValue .pre passed)) passes $
-          calls-at ! fm ByValue known passed (and-then ! (load ! (from ! (stop !)) (look ! 5 refl)) (no-more !)) (λ v.
-          use1 W (later (some (λ (r : Outcome). (‵ ftrue ⊛ ‵ (O.the-row .own r (v ∷ []))) ⊛ raw (ensured 𝓤 H A value-ended value-clauses tt (h, tt) tt r)))) (id⊢ 𝓤 _) $ await ! tt $ pick ! (λ r.
-          split ! $ move ! (1 ∷ []) $ use1 W (raw (fact 𝓤 (Does h (r .session) (r .answer)))) (does h r) $ heard ! (Does h (r .session) (r .answer)) (λ e. split ! $ drop ! $
-          -- [what r owns; the session's cell; the open borrow; obs; auth; _3; …; _2; …; _1; …; _0; …]
-          peeks ! O.the-row (Is O.the-row) (shows 𝓤 H A O.the-row) r (v ∷ []) (λ is′.
-          land ! (from ! (stop !)) (init ! 7 refl (outcome-typed 𝓤 H A W r v is′)) $ rewrite ! 7 (λ (u : Val). ‵ (fat fullShare O′.mir l₂ 0 u)) (outcome-val r v is′) refl $ drop ! $
-          assigns ! (of-opd ! (load ! (from ! (fld ! refl (stop !))) (look-in ! 6 (sub ! 0 refl (whole !))))) (from ! (hop ! (look ! 8 refl) (stop !))) (store-raw ! 0 refl (session-typed 𝓤 H A W (r .session) _ (is-session r v is′))) $
-          assigns ! (of-opd ! (load ! (from ! (fld ! refl (stop !))) (look-in ! 6 (sub ! 1 refl (whole !))))) (from ! (stop !)) (init ! 10 refl (answer-typed 𝓤 H A W (r .answer) _ (is-answer r v is′))) $
-          closes-session ! tt (r .session) (is-session r v is′) b o $
-          -- [obs; the borrow; the token; _3; …; _2; …; _1; …; _0; …]
-          returns ! (look ! 9 refl) $ forget ! 3 refl $ forget ! 5 refl $ forget ! 7 refl $ forget ! 9 refl $ move ! (9 ∷ 10 ∷ []) $ free1 ! $ move ! (7 ∷ 8 ∷ []) $ free1 ! $ move ! (5 ∷ 6 ∷ []) $ free1 ! $ move ! (3 ∷ 4 ∷ []) $ free1 ! $ free0 ! $
-          owned ! Ans.the-row (Is Ans.the-row) (answer-makes 𝓤 H A W) (r .answer) _ (is-answer r v is′) $ keep ! (1 ∷ 2 ∷ 3 ∷ 0 ∷ []) $ by ! (exits r _ e))))))))))
+      module _ (C : Calls 𝓤 H) (Λ : Loops 𝓤 H) (fm : FmC 𝓤 H (W .laws) C) (known : Triple 𝓤 (C f) ByValue) where
+        walk : ent 𝓤 (onEntry 𝓤 H A (lent-ended .signature) (κ, tt) (q, tt) x at) (WpFn 𝓤 H C Λ (function f) (vptr b o ∷ []) Post)
+        walk =
+            qed W ((‵ (flft κ q) ⊛ ‵ ftrue) ∷ ‵ (owns (MutRef (named 0) κ (S .row) ∷ []) x at) ∷ []) ∵ split ! $ move ! (2 ∷ []) $ fsplit ! $ fsplit3 ! $ drop ! $ move ! (0 ∷ 1 ∷ 3 ∷ []) $
+            enter ! C Λ (function f) (vptr b o ∷ []) _ $
+            alloc1 ! (λ l₀. alloc1 ! (λ l₁. alloc1 ! (λ l₂. alloc1 ! (λ l₃. alloc0 ! $ params1 ! $ pass1 ! (init ! 4 refl (tt, tt)) $ pass0 ! $
+            move ! (8 ∷ 9 ∷ 10 ∷ []) $ opens-datum S ! tt h b o (λ is.
+            -- [the lent cell; what it owns; the open borrow; obs; auth; _3; …; _2; …; _1; …; _0; …]
+            assigns ! (of-opd ! (load ! (from ! (hop ! (look ! 9 refl) (stop !))) (look-raw ! 0 refl))) (from ! (stop !)) (init ! 5 refl (S .typed 𝓤 H A W h _ is)) $
+            move ! (1 ∷ []) $ use1 W (raw (ByValue .pre passed)) passes $
+            calls-at ! fm ByValue known passed (and-then ! (load ! (from ! (stop !)) (look ! 5 refl)) (no-more !)) (λ v.
+            use1 W (later (some (λ (r : O .row .Denot). (‵ ftrue ⊛ ‵ (O .row .own r (v ∷ []))) ⊛ raw (ensured 𝓤 H A value-ended value-clauses tt (h, tt) tt r)))) (id⊢ 𝓤 _) $ await ! tt $ pick ! (λ r.
+            split ! $ move ! (1 ∷ []) $ use1 W (raw (fact 𝓤 (Does h (O .first r) (O .second r)))) (does h r) $ heard ! (Does h (O .first r) (O .second r)) (λ e. split ! $ drop ! $
+            -- [what r owns; the lent cell; the open borrow; obs; auth; _3; …; _2; …; _1; …; _0; …]
+            peeks ! (O .row) (Is (O .row)) (shows 𝓤 H A (O .row)) r (v ∷ []) (λ is′.
+            land ! (from ! (stop !)) (init ! 7 refl (O .typed 𝓤 H A W r v is′)) $ rewrite ! 7 (λ (u : Val). ‵ (fat fullShare (pair-ty O) l₂ 0 u)) (O .val-is r v is′) refl $ drop ! $
+            assigns ! (of-opd ! (load ! (from ! (fld ! refl (stop !))) (look-in ! 6 (sub ! 0 refl (whole !))))) (from ! (hop ! (look ! 8 refl) (stop !))) (store-raw ! 0 refl (S .typed 𝓤 H A W (O .first r) _ (O .is-first r v is′))) $
+            assigns ! (of-opd ! (load ! (from ! (fld ! refl (stop !))) (look-in ! 6 (sub ! 1 refl (whole !))))) (from ! (stop !)) (init ! 10 refl (R .typed 𝓤 H A W (O .second r) _ (O .is-second r v is′))) $
+            closes-datum S ! tt (O .first r) (O .is-first r v is′) b o $
+            -- [obs; the borrow; the token; _3; …; _2; …; _1; …; _0; …]
+            returns ! (look ! 9 refl) $ forget ! 3 refl $ forget ! 5 refl $ forget ! 7 refl $ forget ! 9 refl $ move ! (9 ∷ 10 ∷ []) $ free1 ! $ move ! (7 ∷ 8 ∷ []) $ free1 ! $ move ! (5 ∷ 6 ∷ []) $ free1 ! $ move ! (3 ∷ 4 ∷ []) $ free1 ! $ free0 ! $
+            owned ! (R .row) (Is (R .row)) (R .makes 𝓤 H A) (O .second r) _ (O .is-second r v is′) $ keep ! (1 ∷ 2 ∷ 3 ∷ 0 ∷ []) $ by ! (exits r _ e))))))))))
 
-  pub lent : (𝓣 : Tables 𝓤 H) → Triple 𝓤 (𝓣 .C f) ByValue → Meets 𝓤 H A (lent-ended .signature) (WpFn 𝓤 H (𝓣 .C) (𝓣 .Λ) (function f)) (closing 𝓤 H A lent-ended lent-clauses)
-  lent 𝓣 known = walk-meets 𝓤 H A lent-ended stayed W (goes-ref 𝓤 H A W 1 0 tt (plain (λ _. S.the-row)), tt) lent-clauses (WpFn 𝓤 H (𝓣 .C) (𝓣 .Λ) (function f)) (WpFn-mono 𝓤 H (W .laws) 𝓣 (function f))
-      (walked 𝓤 H A lent-ended stayed lent-clauses (WpFn 𝓤 H (𝓣 .C) (𝓣 .Λ) (function f)) (λ κs. (ptr-vals, tt)) (λ κs. (mut-tells (named 0) (κs .0) S.the-row, tt))
-      (λ κs qs bounds a _ _. via 𝓤 _ (fst∗ 𝓤 _ (emp 𝓤)) (walk (κs .0) (qs .0) (a .0 .ptr .0) (a .0 .ptr .1) (a .0 .name) (a .0 .now) (𝓣 .C) (𝓣 .Λ) (fmOf 𝓤 H (W .laws) 𝓣) known)))
+    pub lent : (𝓣 : Tables 𝓤 H) → Triple 𝓤 (𝓣 .C f) ByValue → Meets 𝓤 H A (lent-ended .signature) (WpFn 𝓤 H (𝓣 .C) (𝓣 .Λ) (function f)) (closing 𝓤 H A lent-ended lent-clauses)
+    lent 𝓣 known = walk-meets 𝓤 H A lent-ended stayed W (goes-ref 𝓤 H A W 1 0 tt (plain (λ _. S .row)), tt) lent-clauses (WpFn 𝓤 H (𝓣 .C) (𝓣 .Λ) (function f)) (WpFn-mono 𝓤 H (W .laws) 𝓣 (function f))
+        (walked 𝓤 H A lent-ended stayed lent-clauses (WpFn 𝓤 H (𝓣 .C) (𝓣 .Λ) (function f)) (λ κs. (ptr-vals, tt)) (λ κs. (mut-tells (named 0) (κs .0) (S .row), tt))
+        (λ κs qs bounds a _ _. via 𝓤 _ (fst∗ 𝓤 _ (emp 𝓤)) (walk (κs .0) (qs .0) (a .0 .ptr .0) (a .0 .ptr .1) (a .0 .name) (a .0 .now) (𝓣 .C) (𝓣 .Λ) (fmOf 𝓤 H (W .laws) 𝓣) known)))

@@ -9,7 +9,8 @@ use Rattle.session.proofs.has_image as value
 use Rattle.session.proofs.has_image.Symbol as value-def
 use Rattle.session.proofs.has_image.Symbol.{name as #value}
 use Rattle.session.proofs.has_image.Met as value-thm
-use Rattle.bench.proofs.SharedPoint.{shared-point}
+use Rattle.bench.proofs.Types.{session, point, answer}
+use Rattle.bench.proofs.SharedWith.{shared-with}
 use Rattle.bench.proofs.has_image.Key.{name as #self}
 use Rattle.bench.proofs.has_image as self
 use Rattle.bench.proofs.has_image.Statement as stated
@@ -20,5 +21,5 @@ unfolding code.routine tablesOf
 has-image-spec 𝓤 H 𝓜 𝓖 𝓡 =
     entered 𝓤 H (tripleOf 𝓤 H (𝓖 .A) self.signature (self.spec 𝓤 H (𝓖 .A) (𝓜 .mem) (𝓡 .run)))
     (tables 𝓤 H 𝓜 𝓡 code.env .C) (tables 𝓤 H 𝓜 𝓡 code.env .Λ) #self code.function (code.unfolded 𝓤 H 𝓜 𝓡)
-    (shared-point #value (λ s w. Steps (imageOf w) [] s s) 𝓤 H (𝓖 .A) (givenOf 𝓤 H 𝓜 𝓖) (tablesOf 𝓤 H 𝓜 (tables 𝓤 H 𝓜 𝓡 code.env))
+    (shared-with session point answer #value (λ s w. Steps (imageOf w) [] s s) 𝓤 H (𝓖 .A) (givenOf 𝓤 H 𝓜 𝓖) (tablesOf 𝓤 H 𝓜 (tables 𝓤 H 𝓜 𝓡 code.env))
     (cited 𝓤 H (tripleOf 𝓤 H (𝓖 .A) value.signature (value.spec 𝓤 H (𝓖 .A) (𝓜 .mem) (𝓡 .run))) 𝓜 𝓡 code.env #value value-def.routine code.calls-session·has-image (value-thm.met 𝓤 H 𝓜 𝓖 𝓡)))

@@ -9,6 +9,7 @@ use Rattle.session.proofs.read as value
 use Rattle.session.proofs.read.Symbol as value-def
 use Rattle.session.proofs.read.Symbol.{name as #value}
 use Rattle.session.proofs.read.Met as value-thm
+use Rattle.bench.proofs.Types.{outcome}
 use Rattle.bench.proofs.LentBytes.{lent-bytes}
 use Rattle.bench.proofs.read.Key.{name as #self}
 use Rattle.bench.proofs.read as self
@@ -20,5 +21,5 @@ unfolding code.routine tablesOf
 read-spec 𝓤 H 𝓜 𝓖 𝓡 =
     entered 𝓤 H (tripleOf 𝓤 H (𝓖 .A) self.signature (self.spec 𝓤 H (𝓖 .A) (𝓜 .mem) (𝓡 .run)))
     (tables 𝓤 H 𝓜 𝓡 code.env .C) (tables 𝓤 H 𝓜 𝓡 code.env .Λ) #self code.function (code.unfolded 𝓤 H 𝓜 𝓡)
-    (lent-bytes #value (λ s bytes. Steps (reading bytes) [] s) 𝓤 H (𝓖 .A) (givenOf 𝓤 H 𝓜 𝓖) (tablesOf 𝓤 H 𝓜 (tables 𝓤 H 𝓜 𝓡 code.env))
+    (lent-bytes outcome #value (λ s bytes. Steps (reading bytes) [] s) 𝓤 H (𝓖 .A) (givenOf 𝓤 H 𝓜 𝓖) (tablesOf 𝓤 H 𝓜 (tables 𝓤 H 𝓜 𝓡 code.env))
     (cited 𝓤 H (tripleOf 𝓤 H (𝓖 .A) value.signature (value.spec 𝓤 H (𝓖 .A) (𝓜 .mem) (𝓡 .run))) 𝓜 𝓡 code.env #value value-def.routine code.calls-session·read (value-thm.met 𝓤 H 𝓜 𝓖 𝓡)))
