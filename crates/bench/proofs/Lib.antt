@@ -1,6 +1,7 @@
 pub mod Data
 pub mod Types
 pub mod Steps
+pub mod Stored
 pub mod Lent
 pub mod LentBytes
 pub mod LentNumbers

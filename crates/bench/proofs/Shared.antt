@@ -32,6 +32,7 @@ use Rattle.bench.proofs.Data.{Datum, Value, &}
 use Rattle.bench.proofs.Steps.{looks-datum, shuts-datum}
 
 module _ (S R : Datum) where
+  -- F's MIR, and the signatures of F and of f
   abbrev function : Name → Fn
   function f = record {
     lifetimes = 1;
@@ -47,6 +48,7 @@ module _ (S R : Datum) where
   abbrev value-ended : Ended
   value-ended = record { signature = record { lifetimes = 0; outlives = []; params = plain (λ _. S .row) ∷ []; result = plain (λ _. R .row) }; kept = (yes, tt) }
 
+  -- what F has of its parameters when it returns
   abbrev stayed : Stays (lent-ended .signature .params) (lent-ended .kept)
   stayed = (stay-none-ref (0 ∷ []) tt (plain (λ _. S .row)) yes, tt)
 
@@ -80,6 +82,7 @@ module _ (S R : Datum) where
           suffices ! _ (ends-at 𝓤 H A lent-ended stayed lent-clauses W (((κ, tt), (q, tt), tt, x, at), tt) w r (tt, tt) (tt, tt)) $ says ! e $
           nothing ! $ move ! (1 ∷ 0 ∷ []) $ join ! $ frame ! $ feqI ! (List Val) (vptr b o ∷ []) (vptr b o ∷ []) refl $ fjoin3 ! $ nothing ! $ move ! (1 ∷ 0 ∷ []) $ fjoin ! $ frame ! $ done !
 
+      -- what f is called with
       abbrev passed : ByValue .Ghost
       passed = ((tt, tt, tt, (h, tt), (S .val h ∷ [], tt)), tt)
 

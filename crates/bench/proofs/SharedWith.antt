@@ -32,6 +32,7 @@ use Rattle.bench.proofs.Data.{Datum, Value, &, last, silent}
 use Rattle.bench.proofs.Steps.{looks-datum, shuts-datum}
 
 module _ (S P R : Datum) where
+  -- F's MIR, and the signatures of F and of f
   abbrev function : Name → Fn
   function f = record {
     lifetimes = 1;
@@ -47,6 +48,7 @@ module _ (S P R : Datum) where
   abbrev value-ended : Ended
   value-ended = record { signature = record { lifetimes = 0; outlives = []; params = plain (λ _. S .row) ∷ plain (λ _. P .row) ∷ []; result = plain (λ _. R .row) }; kept = (yes, (yes, tt)) }
 
+  -- what F has of its parameters when it returns
   abbrev stayed : Stays (lent-ended .signature .params) (lent-ended .kept)
   stayed = (stay-none-ref (0 ∷ []) tt (plain (λ _. S .row)) yes, (stay-none (λ _. P .row) yes, tt))
 
@@ -81,6 +83,7 @@ module _ (S P R : Datum) where
           nothing ! $ move ! (1 ∷ 0 ∷ []) $ join ! $ frame ! $
           feqI ! (List Val) (vptr b o ∷ []) (vptr b o ∷ []) refl $ fjoin3 ! $ nothing ! $ owned ! (P .row) (Is (P .row)) (P .makes 𝓤 H A) w _ is-w $ fjoin ! $ move ! (1 ∷ 0 ∷ []) $ fjoin ! $ frame ! $ done !
 
+      -- what f is called with: the second value's machine value makes what it owns
       abbrev passed : ByValue .Ghost
       passed = ((tt, tt, tt, (h, (w, tt)), (S .val h ∷ [], (P .val w ∷ [], tt))), tt)
 

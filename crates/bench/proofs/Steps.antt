@@ -1,4 +1,4 @@
--- Steps of a walk over a datum that is lent.
+-- Steps of a walk over a datum that is lent. A comment in brackets in a walk lists the context at its line: _k is the local k, and the … after it what frees the local.
 --     opens-datum     one lent by `&mut` is in memory, with its machine value written out
 --     closes-datum    another value is left in its place
 --     looks-datum     one lent by `&` is in memory, with a share of it
