@@ -3,6 +3,7 @@ ghost use mathlib.Core.Path.{_≡_};
 ghost use mathlib.Core.Bool.{true};
 ghost use Rattle.region.specs.Region.{checkOf, accepted, acceptedJob, solves};
 ghost use Rattle.region.specs.Reach.{reachOf};
+ghost use Rattle.region.specs.Decide.{Small-point};
 
 mod exact;
 mod member;
@@ -108,6 +109,38 @@ impl Job {
 
     // The same for a job known to be accepted: the search asks it for each candidate.
     pub fn solves_accepted(self, v: Point) -> bool
+        requires { ⌜ acceptedJob self ≡ true ⌝ }
+        ensures { λ r. ⌜ r ≡ solves self v ⌝ }
+    {
+        if member::is_small(v) {
+            self.solves_small(v)
+        } else {
+            self.solves_boxed(v)
+        }
+    }
+
+    // For small coordinates an ellipse's form fits 64 bits wherever the point lies.
+    fn solves_small(self, v: Point) -> bool
+        requires { ⌜ (acceptedJob self ≡ true) × Small-point v ⌝ }
+        ensures { λ r. ⌜ r ≡ solves self v ⌝ }
+    {
+        let k = self.k;
+        let a = self.a;
+        let b = self.b;
+        let w = exact::weight(k);
+        let x = v.real();
+        let y = v.imaginary();
+        let s = exact::bullet(k, x);
+        let t = exact::bullet(k, y);
+        if a.decides(w, x, y) {
+            b.decides(w, s, t)
+        } else {
+            false
+        }
+    }
+
+    // For others the rectangles around both regions come first.
+    fn solves_boxed(self, v: Point) -> bool
         requires { ⌜ acceptedJob self ≡ true ⌝ }
         ensures { λ r. ⌜ r ≡ solves self v ⌝ }
     {
