@@ -9,7 +9,7 @@ use lib.IntN.{ℤ, pos, natAbs, _+ℤ_, _-ℤ_, _*ℤ_}
 use Rattle.integers.specs.Difference.{_≼_}
 use Rattle.integers.specs.Order.{≼→nn}
 use Rattle.ring.specs.declared.RootTwo.{RootTwo}
-use Rattle.ring.specs.RootTwo.{_⊞_, _⊟_, _⊠_, neg, num, √2, parts, by-parts, poly√}
+use Rattle.ring.specs.RootTwo.{_⊞_, _⊟_, _⊠_, num, √2, parts, by-parts, poly√}
 use Rattle.ring.specs.RootTwo.Order.{nonneg, Nn, _⊑_, nn-by, nn-+, nn-*, nn-num, nn-√2, one⊑√2, num-⊑, ⊑-trans}
 use Rattle.region.specs.Accepted.{size-≼}
 use Rattle.line.specs.Row.{at}

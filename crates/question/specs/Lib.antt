@@ -5,3 +5,4 @@ pub mod Reach
 pub mod Search
 pub mod Sizes
 pub mod Strips
+pub mod Units

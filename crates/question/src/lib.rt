@@ -10,6 +10,7 @@ mod lines;
 mod reach;
 mod search;
 mod strips;
+mod units;
 
 use operator::Inverse;
 use operator::Operator;

@@ -1,15 +1,18 @@
 // A line problem: the pairs (p, q) with p + q√2 in one strip and p − q√2 in another, row by row. The pairs stand for the numbers `back` times p + q√2.
 ghost use mathlib.Core.Path.{_≡_};
 ghost use Prim.Native.Nat.{_^_, _≤_};
-ghost use lib.IntN.{pos};
-ghost use Rattle.ring.specs.RootTwo.{_⊠_};
+ghost use mathlib.Core.Bool.{false};
+ghost use Rattle.ring.specs.RootTwo.{_⊟_, _⊠_};
+ghost use Rattle.ring.specs.RootTwo.Order.{nonneg};
 ghost use Rattle.region.specs.Sizes.{Sized};
 ghost use Rattle.line.specs.Row.{coordinate, lower, upper, Small, Least};
 ghost use Rattle.question.specs.Strips.{Ends};
-ghost use Rattle.question.specs.Lines.{middle, top, pairAt, joinedOf, First, Searchable, Line-of};
+ghost use Rattle.question.specs.Lines.{middle, top, pairAt, joinedOf, First, Searchable, Pairless, rowless, Line-with, Line-of};
 use crate::exact::combined;
+use crate::exact::conjugate;
 use crate::exact::product;
 use crate::strips::Strips;
+use crate::units;
 use line::row;
 use line::row::Strip;
 use ring::RootTwo;
@@ -57,12 +60,43 @@ fn joined(s: Strip, t: Strip) -> Strip
     }
 }
 
-pub(crate) fn of_strips(s: Strips) -> Line
-    requires { ⌜ Ends (s .first) × Ends (s .second) ⌝ }
-    ensures { λ r. ⌜ Line-of s r ⌝ }
+// Whether lo ≤ hi.
+fn is_proper(s: Strip) -> bool
+    requires { ⌜ Ends s ⌝ }
+    ensures { λ r. ⌜ r ≡ nonneg (s .hi ⊟ s .lo) ⌝ }
+{
+    let d = combined(1, s.hi, -1, s.lo);
+    row::nonneg(d.p, d.q)
+}
+
+// The line without rows.
+fn without_rows(s: Strips, back: RootTwo) -> Line
+    ensures { λ r. ⌜ r ≡ rowless s back ⌝ }
 {
     let f = s.first;
     let g = s.second;
+    Line {
+        first: f,
+        second: g,
+        back: back,
+        from: 0,
+        end: 0,
+    }
+}
+
+// The line with its rows: none where a strip is empty.
+fn with_rows(s: Strips, back: RootTwo) -> Line
+    requires { ⌜ Ends (s .first) × Ends (s .second) × Sized (2 ^ 17) (2 ^ 17) back ⌝ }
+    ensures { λ r. ⌜ Line-with s back r ⌝ }
+{
+    let f = s.first;
+    let g = s.second;
+    if !is_proper(f) {
+        return without_rows(s, back);
+    }
+    if !is_proper(g) {
+        return without_rows(s, back);
+    }
     let j = joined(f, g);
     let h = j.hi;
     let u = Strip {
@@ -73,9 +107,23 @@ pub(crate) fn of_strips(s: Strips) -> Line
     Line {
         first: f,
         second: g,
-        back: RootTwo { p: 1, q: 0 },
+        back: back,
         from: first(j),
         end: first(u) + 1,
+    }
+}
+
+// The line of two strips, scaled so that its rows are few.
+pub(crate) fn of_strips(s: Strips) -> Line
+    requires { ⌜ Ends (s .first) × Ends (s .second) ⌝ }
+    ensures { λ r. ⌜ Line-of s r ⌝ }
+{
+    let u = units::balance(s);
+    let t = units::scaled(s, u);
+    if units::fits(t) {
+        with_rows(t, conjugate(u))
+    } else {
+        with_rows(s, RootTwo { p: 1, q: 0 })
     }
 }
 
@@ -93,6 +141,25 @@ pub(crate) fn reaches(l: Line, t: u64, q: u64) -> bool
     ensures { λ r. ⌜ r ≡ upper (l .first) (l .second) (coordinate middle t) (coordinate middle q) ⌝ }
 {
     row::upper(l.first, l.second, HALF, t, q)
+}
+
+// Whether a pair lies in the line.
+pub(crate) fn has_pair(l: Line) -> bool
+    requires { ⌜ Searchable l ⌝ }
+    ensures { λ r. ⌜ (r ≡ false → Pairless l) ⌝ }
+{
+    let end = l.end;
+    let mut t = l.from;
+    while t < end {
+        let q = start(l, t);
+        if q < TOP {
+            if reaches(l, t, q) {
+                return true;
+            }
+        }
+        t += 1;
+    }
+    false
 }
 
 // What a pair of digits stands for.

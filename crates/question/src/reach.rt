@@ -8,7 +8,7 @@ ghost use Rattle.ring.specs.RootTwo.Order.{nonneg, _⊑_};
 ghost use Rattle.region.specs.Region.{accepted};
 ghost use Rattle.region.specs.Sizes.{Sized};
 ghost use Rattle.region.specs.declared.Region.the-variants as R;
-ghost use Rattle.question.specs.Reach.{Short, Direction, farEnd, widthOf, Half-width, Reaches};
+ghost use Rattle.question.specs.Reach.{Direction, farEnd, widthOf, Half-width, Reaches};
 use crate::exact::combined;
 use crate::exact::product;
 use line::row::nonneg;
@@ -36,11 +36,11 @@ fn over_rectangle(r: Rectangle, u: RootTwo, v: RootTwo) -> RootTwo
 }
 
 // About q√2, by a convergent.
-fn near_root(q: i64) -> i64
-    requires { ⌜ natAbs q ≤ 2 ^ 26 ⌝ }
-    ensures { λ r. ⌜ natAbs r ≤ 2 ^ 28 ⌝ }
+pub(crate) fn near_root(q: i64) -> i64
+    requires { ⌜ natAbs q ≤ 2 ^ 38 ⌝ }
+    ensures { λ r. ⌜ natAbs r ≤ 2 * natAbs q + 1 ⌝ }
 {
-    let c = (integers::abs(q) * 768398401 / 543339720) as i64;
+    let c = (integers::abs(q) * 22619537 / 15994428) as i64;
     if 0 <= q { c + 1 } else { -c }
 }
 

@@ -2,13 +2,13 @@
 ghost use mathlib.Core.Path.{_≡_};
 ghost use mathlib.Core.Bool.{true};
 ghost use Prim.Native.Nat.{_≤_};
-ghost use lib.IntN.{pos};
+ghost use lib.IntN.{natAbs};
 ghost use Rattle.ring.specs.RootTwo.{conj};
 ghost use Rattle.ring.specs.RootTwo.Power.{turn};
 ghost use Rattle.region.specs.Region.{topScale, accepted, acceptedJob};
 ghost use Rattle.region.specs.Over.{scale};
 ghost use Rattle.question.specs.Reach.{Short, Direction};
-ghost use Rattle.question.specs.Strips.{Strip-of, Strips-of};
+ghost use Rattle.question.specs.Strips.{endSize, Ends, Strip-of, Strips-of};
 use crate::exact::conjugate;
 use crate::exact::opposite;
 use crate::exact::power;
@@ -67,5 +67,42 @@ pub(crate) fn of_job(job: Job, u: RootTwo, v: RootTwo) -> Strips
     Strips {
         first: strip(a, k, u, v),
         second: strip(b, k, turned(k, u), turned(k, v)),
+    }
+}
+
+// Half way from x to y, or near it.
+fn middle(x: i64, y: i64) -> i64
+    requires { ⌜ (natAbs x ≤ endSize) × (natAbs y ≤ endSize) ⌝ }
+    ensures { λ r. ⌜ natAbs r ≤ endSize ⌝ }
+{
+    if x == y { x } else { x / 2 + y / 2 }
+}
+
+fn upper_half(s: Strip) -> Strip
+    requires { ⌜ Ends s ⌝ }
+    ensures { λ r. ⌜ Ends r ⌝ }
+{
+    let l = s.lo;
+    let h = s.hi;
+    Strip {
+        m: s.m,
+        lo: RootTwo {
+            p: middle(l.p, h.p),
+            q: middle(l.q, h.q),
+        },
+        hi: h,
+    }
+}
+
+// The upper halves: a search of their line begins in the middle of both.
+pub(crate) fn upper(s: Strips) -> Strips
+    requires { ⌜ Ends (s .first) × Ends (s .second) ⌝ }
+    ensures { λ r. ⌜ Ends (r .first) × Ends (r .second) ⌝ }
+{
+    let f = s.first;
+    let g = s.second;
+    Strips {
+        first: upper_half(f),
+        second: upper_half(g),
     }
 }

@@ -1,58 +1,62 @@
-use mathlib.Core.Path.{_≡_, sym, subst}
+use mathlib.Core.Path.{sym, subst, subst₂}
+use Prim.Native.Nat.{_^_, _≤_}
+use lib.IntN.{pos, natAbs}
+use Rattle.integers.specs.Difference.{_≼_}
+use Rattle.region.specs.Sizes.{Sized}
 use native.Mathlib.Omega.{arith}
-use mir.Syntax.{w64}
-use mir.Val.{toZ, ofZ}
-use mir.Facts.{toZ-ofZ}
-use Rattle.integers.specs.Size.{size→fits}
-use Rattle.line.specs.declared.row.Strip.{Strip}
-use Rattle.line.specs.Row.{Small}
-use Rattle.question.specs.Lines.{joinedOf, First, joined-small, line-of}
+use borrow.Author.Needs.{needs}
+use Rattle.question.specs.declared.strips.Strips.{Strips}
+use Rattle.question.specs.Sizes.{sized-more, conj-size}
+use Rattle.question.specs.Lines.{Line-with}
+use Rattle.question.specs.Units.{line-scaled, line-same}
 use Rattle.question.proofs.lines.of_strips.Statement.{statement}
 use Rattle.question.proofs.lines.of_strips.Tie as tie
 
-joined-requires : tie.Need-joined-requires
-joined-requires c κs = c .before .before .pre
+balance-requires : tie.Need-balance-requires
+balance-requires c κs = search needs
 
--- the rows' strip, and its upper end as a strip of its own
-module _ (c : tie.After-joined) where
-  abbrev s : tie.Start
-  s = c .before .before .before
+scaled-requires : tie.Need-scaled-requires
+scaled-requires c κs = search needs
 
-  abbrev j : Strip
-  j = c .joined .result
+fits-requires : tie.Need-fits-requires
+fits-requires c κs = search needs
 
-  j-is : j ≡ joinedOf (s .args .s .first) (s .args .s .second)
-  j-is = c .joined .ensures
+conjugate-requires : tie.Need-conjugate-requires
+conjugate-requires c κs = sized-more (2 ^ 17) (2 ^ 60) _ (omega arith) (c .before .before .before .balance .ensures .size)
 
-  j-small : Small j
-  j-small = subst Small (sym j-is) (joined-small (s .args .s .first) (s .args .s .second) (s .pre .0) (s .pre .1))
+with-rows-requires : tie.Need-with-rows-requires
+with-rows-requires c κs =
+    let f = c .before .before in
+    let b = f .before .before in
+    let s = b .before in
+    let e = f .before .scaled .ensures in
+    let z = f .fits2 .ensures (c .before .if1 .taken) in (
+      record { one = subst (λ (t : Strips). pos 1 ≼ t .first .m) (sym e) (s .pre .0 .one); scale = subst (λ (t : Strips). natAbs (t .first .m) ≤ 100) (sym e) (s .pre .0 .scale); lo = z .0 .0; hi = z .0 .1 },
+      record { one = subst (λ (t : Strips). pos 1 ≼ t .second .m) (sym e) (s .pre .1 .one); scale = subst (λ (t : Strips). natAbs (t .second .m) ≤ 100) (sym e) (s .pre .1 .scale); lo = z .1 .0; hi = z .1 .1 },
+      subst (λ u. Sized (2 ^ 17) (2 ^ 17) u) (sym (c .conjugate .ensures)) (conj-size (2 ^ 17) (b .balance .result) (b .balance .ensures .size)),
+    )
 
-  m-is : toZ w64 (ofZ w64 (j .m)) ≡ j .m
-  m-is = toZ-ofZ (size→fits (omega (arith, j-small .scale)))
-
-  abbrev end : Strip → Strip
-  end j = record { m = j .m; lo = j .hi; hi = j .hi }
-
-  end-small : Small (end j)
-  end-small = let k = j-small in record { scale = k .scale; positive = k .positive; lo-p = k .hi-p; lo-q = k .hi-q; hi-p = k .hi-p; hi-q = k .hi-q }
-
-first-requires : tie.Need-first-requires
-first-requires c κs = j-small (c .before .before)
-
-first-requires-2 : tie.Need-first-requires-2
-first-requires-2 c κs = let d = c .before .before .before in rw (m-is d) (end-small d)
-
-add-t10 : tie.Need-add-t10
-add-t10 c = omega (arith, c .first2 .ensures .within)
+with-rows-requires-2 : tie.Need-with-rows-requires-2
+with-rows-requires-2 c κs = search needs
 
 returns : tie.Need-returns
 returns c =
-    let d = c .before .before .before .before in
-    let e = rw (m-is d) at (c .first2 .ensures) in
-    line-of (s d .args .s) (c .before .first .result) (c .first2 .result) (s d .pre .0) (s d .pre .1)
-    (subst (λ x. First x (c .before .first .result)) (j-is d) (c .before .first .ensures))
-    (subst (λ x. First (end d x) (c .first2 .result)) (j-is d) e)
+    let b = c .before .before .before .before .before in
+    let s = b .before in
+    line-scaled (s .args .s) (b .balance .result) _ (b .balance .ensures) (subst₂ (λ t u. Line-with t u (c .with-rows .result)) (c .before .before .before .before .scaled .ensures) (c .before .conjugate .ensures) (c .with-rows .ensures))
+
+returns-2 : tie.Need-returns-2
+returns-2 c = line-same (c .before .before .before .before .before .args .s) _ (c .with-rows2 .ensures)
 
 pub of-strips-spec : {M : Type 1} → statement M
 of-strips-spec =
-    tie.close (tie.spec joined-requires first-requires first-requires-2 add-t10 returns)
+    tie.close
+    (tie.spec
+    balance-requires
+    scaled-requires
+    fits-requires
+    conjugate-requires
+    with-rows-requires
+    with-rows-requires-2
+    returns
+    returns-2)

@@ -16,7 +16,10 @@ use Rattle.question.proofs.reach.ceiling.Statement.{statement}
 use Rattle.question.proofs.reach.ceiling.Tie as tie
 
 near-root-requires : tie.Need-near-root-requires
-near-root-requires c κs = search needs
+near-root-requires c κs =
+    let s = c .before in
+    let q : SFits w64 (s .args .x .q) = size→fits (omega (arith, s .pre .q)) in
+    rw (toZ-ofZ q) (omega (arith, s .pre .q))
 
 module _ (c : tie.After-near-root) where
   abbrev s : tie.Start
@@ -40,8 +43,11 @@ module _ (c : tie.After-near-root) where
   xq : SFits w64 (x .q)
   xq = size→fits (omega (arith, s .pre .q))
 
+  r-size : natAbs r ≤ 2 * natAbs (x .q) + 1
+  r-size = rw (toZ-ofZ xq) at (c .near-root .ensures)
+
   t-size : natAbs t ≤ 2 ^ 26 + 2 ^ 28
-  t-size = omega (arith, s .pre .p, c .near-root .ensures, size-+ (x .p) r)
+  t-size = omega (arith, s .pre .p, s .pre .q, r-size, size-+ (x .p) r)
 
   t-fits : SFits w64 t
   t-fits = size→fits (omega (arith, t-size))

@@ -1,7 +1,7 @@
-use mathlib.Core.Path.{_≡_, _∙_}
+use mathlib.Core.Path.{_≡_}
 use Prim.Native.Nat.{ℕ, _*_, _/_, _^_, _≤_}
 use native.Mathlib.Omega.{arith}
-use lib.IntN.{pos, _+ℤ_, _-ℤ_}
+use lib.IntN.{pos, natAbs, _+ℤ_, _-ℤ_}
 use mir.Syntax.{w64}
 use mir.Val.{SFits, toZ}
 use mir.Facts.{toZ-ofZ, toZ-pos}
@@ -17,18 +17,20 @@ module _ (c : tie.After-abs) where
   abbrev n : ℕ
   n = c .abs .result
 
-  n-small : n ≤ 2 ^ 26
-  n-small = let s = c .before in (rw (toZ-ofZ (s .fits .q)) at (c .abs .ensures)) ∙≤ s .pre
-    where
-      infixr 5 _∙≤_
-      _∙≤_ : {a b m : ℕ} → a ≡ b → b ≤ m → a ≤ m
-      e ∙≤ h = omega arith
+  n-is : n ≡ natAbs (c .before .args .q)
+  n-is = rw (toZ-ofZ (c .before .fits .q)) at (c .abs .ensures)
+
+  n-small : n ≤ 2 ^ 38
+  n-small = omega (arith, n-is, c .before .pre)
 
   abbrev t : ℕ
-  t = n * 768398401 / 543339720
+  t = n * 22619537 / 15994428
 
-  t-small : t ≤ 2 ^ 27
-  t-small = omega (arith, n-small)
+  t-twice : t ≤ 2 * n
+  t-twice = omega arith
+
+  t-small : t ≤ 2 ^ 39
+  t-small = omega (arith, n-small, t-twice)
 
   t-is : toZ w64 t ≡ pos t
   t-is = toZ-pos w64 (omega (arith, t-small))
@@ -52,10 +54,10 @@ sub-result : tie.Need-sub-result
 sub-result c = rw (t-is (c .before)) (down (c .before))
 
 returns : tie.Need-returns
-returns c = let d = c .before in rw (t-is d, toZ-ofZ (up d)) (omega (arith, t-small d, size-+ (pos (t d)) (pos 1)))
+returns c = let d = c .before in rw (t-is d, toZ-ofZ (up d)) (omega (arith, n-is d, t-twice d, size-+ (pos (t d)) (pos 1)))
 
 returns-2 : tie.Need-returns-2
-returns-2 c = let d = c .before in rw (t-is d, toZ-ofZ (down d)) (omega (arith, t-small d, size-- (pos 0) (pos (t d))))
+returns-2 c = let d = c .before in rw (t-is d, toZ-ofZ (down d)) (omega (arith, n-is d, t-twice d, size-- (pos 0) (pos (t d))))
 
 pub near-root-spec : {M : Type 1} → statement M
 near-root-spec =
