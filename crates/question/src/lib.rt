@@ -3,11 +3,14 @@ ghost use mathlib.Core.Path.{_≡_};
 ghost use mathlib.Core.Bool.{not};
 ghost use Rattle.ranks.specs.Rest.{isNil};
 ghost use Rattle.walk.specs.Walk.{full};
+ghost use Rattle.operator.specs.declared.Check.the-variants.{Special};
+ghost use Rattle.operator.specs.Operator.{checkOf};
 ghost use Rattle.question.specs.Search.{Undoing};
 
 mod exact;
 mod lines;
 mod reach;
+mod reduce;
 mod search;
 mod strips;
 mod units;
@@ -26,15 +29,42 @@ pub(crate) struct Turn {
 pub fn has_solution(job: Job, caller: Operator) -> bool
     ensures { λ r. ⌜ r ≡ not (isNil (full job)) ⌝ }
 {
-    if job.is_accepted() {
-        search::search(job, usable(caller))
+    if !job.is_accepted() {
+        return false;
+    }
+    let g = if is_identity(caller) {
+        propose(job)
     } else {
-        false
+        caller
+    };
+    search::search(job, usable(g))
+}
+
+// The reduction's proposal for a job. Its choice is free: it passes the operators' test, and every answer is the same whatever it is.
+pub fn propose(job: Job) -> Operator
+    ensures { λ r. ⌜ checkOf r ≡ Special ⌝ }
+{
+    if job.is_accepted() {
+        let t = reduce::reduced(job);
+        t.there
+    } else {
+        Operator::IDENTITY
     }
 }
 
+fn is_identity(g: Operator) -> bool {
+    (g.a == 0)
+        & (g.b == 0)
+        & (g.c == 0)
+        & (g.d == 1)
+        & (g.ai == 0)
+        & (g.bi == 1)
+        & (g.ci == 0)
+        & (g.di == 0)
+}
+
 // The operator with its inverse, or the identity for one that the test refuses.
-fn usable(g: Operator) -> Turn
+pub(crate) fn usable(g: Operator) -> Turn
     ensures { λ r. ⌜ Undoing r ⌝ }
 {
     let i = g.inverse();

@@ -50,7 +50,7 @@ fn steps(a: u64, b: u64) -> u64 {
 }
 
 // About hi − lo over m.
-fn width(s: Strip) -> u64
+pub(crate) fn width(s: Strip) -> u64
     requires { ⌜ Ends s ⌝ }
 {
     let d = combined(1, s.hi, -1, s.lo);
