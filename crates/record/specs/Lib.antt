@@ -1,3 +1,4 @@
 -- What one reading of a job's bytes is.
 pub mod Field
 pub mod Record
+pub mod Taken

@@ -5,3 +5,4 @@ pub mod Writing
 pub mod Digits
 pub mod Words
 pub mod Hexadecimal
+pub mod Lengths

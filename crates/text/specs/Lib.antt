@@ -5,3 +5,4 @@ pub mod Decimal
 pub mod Written
 pub mod Wide
 pub mod Hex
+pub mod Append

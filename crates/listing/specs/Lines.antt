@@ -1,0 +1,75 @@
+-- The lines that the list program prints: document 01, "The list program".
+use mathlib.Core.Path.{_≡_, refl, ap, _∙_}
+use mathlib.Core.Bool.{Bool, true, false, not}
+use mathlib.Core.List.{List, [], _∷_, _++_}
+use Prim.Native.Nat.{ℕ, _+_, _*_, _/_, min}
+use lib.IntN.{ℤ, pos}
+use lib.ListN.{length, take, drop, getD}
+use Rattle.ring.specs.declared.Point.{Point}
+use Rattle.ring.specs.Point.Exponent.{exponentOf, pulseCount}
+use Rattle.text.specs.Decimal.{decimal, signedDecimal}
+use Rattle.ranks.specs.Rest.{at, ended, isNil, placeOf, rest}
+use Rattle.ranks.specs.Rank.{top}
+use Rattle.ranks.specs.Handed.{flat}
+use Rattle.walk.specs.Walk.{span, solvesAt, numbersOf}
+use Rattle.calls.specs.Session.{early, walking}
+use Rattle.calls.specs.Session as Model
+use Rattle.session.specs.World.{world}
+
+-- a coordinate and a space; a count and the mark after it
+unfoldable pub coordinateText : ℤ → List ℕ
+coordinateText z = signedDecimal z ++ (32 ∷ [])
+
+unfoldable pub countText : ℕ → ℕ → List ℕ
+countText n mark = decimal n ++ (mark ∷ [])
+
+-- "one line `a b c d e m` for each solution"
+unfoldable pub pointLine : ℕ → Point → List ℕ
+pointLine k v =
+    coordinateText (v .a) ++ coordinateText (v .b) ++ coordinateText (v .c) ++ coordinateText (v .d) ++ countText (exponentOf k v) 32 ++ countText (pulseCount (exponentOf k v)) 10
+
+-- the point number i of a list with four numbers for each
+unfoldable pub pointAt : List ℤ → ℕ → Point
+pointAt l i = record { a = getD l (4 * i) (pos 0); b = getD l (4 * i + 1) (pos 0); c = getD l (4 * i + 2) (pos 0); d = getD l (4 * i + 3) (pos 0) }
+
+-- the lines of points in four numbers each
+unfoldable pub linesOf : ℕ → List ℤ → List ℕ
+linesOf k [] = []
+linesOf k (a ∷ []) = []
+linesOf k (a ∷ b ∷ []) = []
+linesOf k (a ∷ b ∷ c ∷ []) = []
+linesOf k (a ∷ b ∷ c ∷ d ∷ l) = pointLine k (record { a = a; b = b; c = c; d = d }) ++ linesOf k l
+
+-- "then `end N` with N their number in decimal"
+unfoldable pub endLine : ℕ → List ℕ
+endLine n = (101 ∷ 110 ∷ 100 ∷ 32 ∷ []) ++ countText n 10
+
+-- "`refused R at P`"
+unfoldable pub refusalLine : ℕ → ℕ → List ℕ
+refusalLine r p = (114 ∷ 101 ∷ 102 ∷ 117 ∷ 115 ∷ 101 ∷ 100 ∷ 32 ∷ []) ++ decimal r ++ (32 ∷ 97 ∷ 116 ∷ 32 ∷ []) ++ countText p 10
+
+-- ---- a page: one hand-out with its lines
+-- the room for points: no more than 1,024, and their lines fit
+abbrev pub roomIn : ℕ → ℕ
+roomIn n = min 1024 (n / 126)
+
+pub record Paging : Type 0 where
+  pub session : Model.Session world
+  pub count : ℕ
+  pub more : Bool
+  pub text : List ℕ
+
+abbrev nothing : Model.Session world → Paging
+nothing m = record { session = m; count = 0; more = false; text = [] }
+
+unfoldable pub pageOf : ℕ → Model.Session world → Paging
+pageOf room (early p) = nothing (early p)
+pageOf room (walking j ended o) = nothing (walking j ended o)
+pageOf room (walking j (at p) o) =
+    let left = rest (solvesAt j) (top span) p in
+    record {
+      session = walking j (placeOf (drop room left)) o;
+      count = length (take room left);
+      more = not (isNil (drop room left));
+      text = linesOf (j .k) (flat numbersOf (take room left));
+    }

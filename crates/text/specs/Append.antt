@@ -1,0 +1,50 @@
+-- Text put after text: what stands before a place, and then more. Assumes nothing.
+use Prim.Native.Nat.{ℕ, _+_, _≤_}
+use mathlib.Core.Path.{_≡_, sym, ap, _∙_}
+use mathlib.Core.List.{List, [], _∷_, _++_, append-assoc}
+use native.Mathlib.Omega.{arith}
+use borrow.Author.Tests.{le-leb}
+use lib.ListN.{length, take, drop, length-append, length-drop}
+use lib.Seq.{take-at, drop-at, drop-drop, length-take-le}
+use Rattle.text.specs.Written.{written, after}
+
+-- ys stands after the first `at` bytes of xs, and ends at r
+pub record Appended (xs : List ℕ) (at : ℕ) (ys out : List ℕ) (r : ℕ) : Type 0 where
+  pub text : take r out ≡ take at xs ++ ys
+  pub end : r ≡ at + length ys
+  pub same : length out ≡ length xs
+  pub past : drop r out ≡ drop r xs
+
+module _ (xs : List ℕ) (at : ℕ) (ys : List ℕ) where
+  pub appended : (out : List ℕ) (r : ℕ) → at + length ys ≤ length xs → out ≡ written xs at ys → r ≡ after xs at ys → Appended xs at ys out r
+  unfolding written after
+  appended out r h e f =
+      let fit = le-leb (at + length ys) (length xs) h in
+      let o : out ≡ take at xs ++ ys ++ drop (at + length ys) xs = e ∙ simp fit in
+      let s : r ≡ at + length ys = f ∙ simp fit in
+      let n : length (take at xs ++ ys) ≡ at + length ys = length-append (take at xs) ys ∙ ap (λ (k : ℕ). k + length ys) (length-take-le at xs (omega arith)) in
+      record {
+        text = rw (o, s) (take-at (take at xs ++ ys) (drop (at + length ys) xs) (at + length ys) n);
+        end = s;
+        past = rw (o, s) (drop-at (take at xs ++ ys) (drop (at + length ys) xs) (at + length ys) n);
+        same = rw o (length-append (take at xs ++ ys) (drop (at + length ys) xs) ∙ omega (arith, n, length-drop (at + length ys) xs));
+      }
+
+  pub append-more : (zs mid out : List ℕ) (r r′ : ℕ) → Appended xs at ys mid r → Appended mid r zs out r′ → Appended xs at (ys ++ zs) out r′
+  append-more zs mid out r r′ a b = record {
+    text = b .text ∙ ap (λ (l : List ℕ). l ++ zs) (a .text) ∙ append-assoc (take at xs) ys zs;
+    end = let n = length-append ys zs in let e = a .end in let f = b .end in omega arith;
+    same = b .same ∙ a .same;
+    past = b .past ∙ rw (b .end) (sym (drop-drop (length zs) r mid) ∙ ap (drop (length zs)) (a .past) ∙ drop-drop (length zs) r xs);
+  }
+
+-- text of at most n bytes and a mark after it
+pub marked : (xs : List ℕ) (at : ℕ) (ys : List ℕ) (mark n : ℕ) (mid out : List ℕ) (r r′ : ℕ) → length ys ≤ n → at + n + 1 ≤ length xs → (mid ≡ written xs at ys) × (r ≡ after xs at ys)
+    → (out ≡ written mid r (mark ∷ [])) × (r′ ≡ after mid r (mark ∷ [])) → Appended xs at (ys ++ (mark ∷ [])) out r′ × (r′ ≤ at + n + 1)
+marked xs at ys mark n mid out r r′ l h p q =
+    let a = appended xs at ys mid r (omega arith) (p .0) (p .1) in
+    let e = a .end in
+    let s = a .same in
+    let b = appended mid r (mark ∷ []) out r′ (omega arith) (q .0) (q .1) in
+    let f = b .end in
+    (append-more xs at ys (mark ∷ []) mid out r r′ a b, omega arith)
