@@ -6,3 +6,5 @@ pub use input::Input;
 pub use input::load;
 pub use page::Page;
 pub use page::next;
+pub use page::put_end;
+pub use page::put_refusal;

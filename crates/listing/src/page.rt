@@ -3,7 +3,9 @@ ghost use mathlib.Core.Path.{_≡_};
 ghost use mathlib.Core.Bool.{false};
 ghost use Prim.Native.Nat.{_+_, _*_, _/_, _≤_, min};
 ghost use lib.ListN.{length, take};
+ghost use Rattle.io.specs.Counts.{Counts};
 ghost use Rattle.text.specs.Append.{Appended};
+ghost use Rattle.text.specs.Decimal.{decimal};
 ghost use Rattle.text.specs.Wide.{value};
 ghost use Rattle.text.specs.Written.{written, after};
 ghost use Rattle.record.specs.Record.{number};
@@ -151,4 +153,48 @@ fn put_count(out: &mut [u8], at: usize, n: u64, mark: u8) -> usize
 {
     let end = text::put_unsigned(out, at, n);
     text::put_byte(out, end, mark)
+}
+
+// `end N`.
+pub fn put_end(out: &mut [u8], at: usize, n: Wide) -> usize
+    ensures { λ r. ⌜ (now (out .exit) ≡ written (now (out .entry)) at (endLine (value n))) × (r ≡ after (now (out .entry)) at (endLine (value n))) ⌝ }
+{
+    let mut line = [0u8; 64];
+    let length = end_line(&mut line, n);
+    text::put_bytes(out, at, &line[..length])
+}
+
+// `refused R at P`.
+pub fn put_refusal(out: &mut [u8], at: usize, f: Refusal, place: usize) -> usize
+    ensures { λ r. ⌜ (now (out .exit) ≡ written (now (out .entry)) at (refusalLine (number f) place)) × (r ≡ after (now (out .entry)) at (refusalLine (number f) place)) ⌝ }
+{
+    let mut line = [0u8; 64];
+    let length = refusal_line(&mut line, f, place);
+    text::put_bytes(out, at, &line[..length])
+}
+
+fn end_line(line: &mut [u8], n: Wide) -> usize
+    requires { ⌜ length (now line) ≡ 64 ⌝ }
+    ensures { λ r. ⌜ Appended (now (line .entry)) 0 (endLine (value n)) (now (line .exit)) r × Counts r (now (line .exit)) ⌝ }
+{
+    let a = text::put_bytes(line, 0, b"end ");
+    let b = text::put_wide(line, a, n);
+    text::put_byte(line, b, b'\n')
+}
+
+fn refusal_line(line: &mut [u8], f: Refusal, place: usize) -> usize
+    requires { ⌜ length (now line) ≡ 64 ⌝ }
+    ensures { λ r. ⌜ Appended (now (line .entry)) 0 (refusalLine (number f) place) (now (line .exit)) r × Counts r (now (line .exit)) ⌝ }
+{
+    let a = text::put_bytes(line, 0, b"refused ");
+    let b = put_number(line, a, f.number());
+    let c = text::put_bytes(line, b, b" at ");
+    put_count(line, c, place as u64, b'\n')
+}
+
+fn put_number(out: &mut [u8], at: usize, n: u8) -> usize
+    requires { ⌜ at + 20 ≤ length (now out) ⌝ }
+    ensures { λ r. ⌜ Appended (now (out .entry)) at (decimal n) (now (out .exit)) r × (r ≤ at + 20) ⌝ }
+{
+    text::put_unsigned(out, at, n as u64)
 }

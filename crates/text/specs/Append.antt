@@ -3,8 +3,10 @@ use Prim.Native.Nat.{ℕ, _+_, _≤_}
 use mathlib.Core.Path.{_≡_, sym, ap, _∙_}
 use mathlib.Core.List.{List, [], _∷_, _++_, append-assoc}
 use native.Mathlib.Omega.{arith}
-use borrow.Author.Tests.{le-leb}
-use lib.ListN.{length, take, drop, length-append, length-drop}
+use native.Mathlib.Nat.{min-le-right}
+use native.Mathlib.Decide.{decLe}
+use borrow.Author.Tests.{le-leb, lt-leb}
+use lib.ListN.{length, take, drop, length-append, length-take, length-drop}
 use lib.Seq.{take-at, drop-at, drop-drop, length-take-le}
 use Rattle.text.specs.Written.{written, after}
 
@@ -48,3 +50,30 @@ marked xs at ys mark n mid out r r′ l h p q =
     let b = appended mid r (mark ∷ []) out r′ (omega arith) (q .0) (q .1) in
     let f = b .end in
     (append-more xs at ys (mark ∷ []) mid out r r′ a b, omega arith)
+
+-- a place never leaves the list
+pub after-within : (xs : List ℕ) (at : ℕ) (ys : List ℕ) → at ≤ length xs → after xs at ys ≤ length xs
+unfolding after
+after-within xs at ys h = elim (decLe (at + length ys) (length xs)) [
+  | yes k ↦ simp (le-leb _ _ k) k
+  | no k ↦ simp (lt-leb (at + length ys) (length xs) (omega arith)) h
+]
+
+-- what a writer put at the start, and what stands after nothing, are within the list
+pub put-within : (xs ys out : List ℕ) (r : ℕ) → (out ≡ written xs 0 ys) × (r ≡ after xs 0 ys) → r ≤ length out
+unfolding written after
+put-within xs ys out r p = elim (decLe (0 + length ys) (length xs)) [
+  | yes k ↦ let a = appended xs 0 ys out r k (p .0) (p .1) in let e = a .end in let s = a .same in omega arith
+  | no k ↦
+      let n = lt-leb (0 + length ys) (length xs) (omega arith) in
+      let z : r ≡ 0 = p .1 ∙ simp n in
+      omega arith
+]
+
+pub appended-within : (xs ys out : List ℕ) (r : ℕ) → Appended xs 0 ys out r → r ≤ length out
+appended-within xs ys out r a =
+    let t = ap length (a .text) in
+    let n = length-take r out in
+    let m = min-le-right r (length out) in
+    let e = a .end in
+    omega arith
