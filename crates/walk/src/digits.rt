@@ -5,7 +5,7 @@ ghost use Rattle.walk.specs.Walk.{span, coordinate, digit};
 ghost use Rattle.walk.specs.Search.{Digits, pointAt};
 use ring::Point;
 
-const HALF: i64 = 2147483648;
+pub(crate) const HALF: i64 = 2147483648;
 
 pub(crate) fn digit(z: i32) -> u64
     ensures { λ r. ⌜ r ≡ digit z ⌝ ∗ ⌜ r < span ⌝ }
