@@ -1,7 +1,7 @@
 -- What a session and its answers mean, in the model of `calls`. Every value of the type has a meaning.
 use mathlib.Core.Path.{_≡_, refl, ap, _∙_}
-use mathlib.Core.Bool.{Bool}
-use mathlib.Core.List.{List}
+use mathlib.Core.Bool.{Bool, true}
+use mathlib.Core.List.{List, []}
 use Prim.Native.Nat.{ℕ, _/_}
 use lib.IntN.{ℤ}
 use lib.ListN.{length, drop}
@@ -18,6 +18,7 @@ use Rattle.ranks.specs.Handed.{Gave}
 use Rattle.walk.specs.declared.Spot.{Spot}
 use Rattle.walk.specs.declared.Spot.the-variants as P
 use Rattle.walk.specs.Walk.{span, solvesAt, numbersOf, spotOf}
+use Rattle.walk.specs.Hand.{gave-none}
 use Rattle.calls.specs.Session.{Call, handOut, refused, taken, handed, done, says, early, walking, joined, remembered, given, step, reading, lent}
 use Rattle.calls.specs.Session as Model
 use Rattle.session.specs.declared.Course.{Course}
@@ -30,6 +31,10 @@ use Rattle.session.specs.World.{world, nothing, scaled, first, turnAt, p
 
 abbrev pub courseOf : Course → Model.Session world
 courseOf c = walking (c .job) (spotOf (c .spot)) (c .operator)
+
+-- the same job at its end
+abbrev pub ended : Course → Course
+ended c = record { job = c .job; spot = P.Ended; operator = c .operator }
 
 abbrev pub stageOf : Stage → Model.Session world
 stageOf S.Fresh = early nothing
@@ -110,3 +115,7 @@ gave-gives c spot old new count e g h =
 pub course-hands : (c : Course) (v : Point) (old : List ℤ) → c .spot ≡ P.At v
     → step world (handOut old) (courseOf c) ≡ given world (c .job) (c .operator) old (leftAt (solvesAt (c .job)) (top span) (spotOf (c .spot)))
 course-hands c v old e = rw e refl
+
+pub empty-gives : (c : Course) (old : List ℤ) → leftAt (solvesAt (c .job)) (top span) (spotOf (c .spot)) ≡ []
+    → Gives (given world (c .job) (c .operator) old (leftAt (solvesAt (c .job)) (top span) (spotOf (c .spot)))) old old (record { stage = S.Walking (ended c) }) (A.Handed 0 true)
+empty-gives c old e = gave-gives c P.Ended old old 0 true (gave-none _ old _ e) refl

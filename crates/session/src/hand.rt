@@ -1,11 +1,13 @@
 // A session's hand-outs.
 ghost use mathlib.Core.Path.{_≡_};
+ghost use mathlib.Core.Bool.{true};
+ghost use mathlib.Core.List.{[]};
 ghost use Rattle.calls.specs.Session.{step, handOut, given};
 ghost use Rattle.ranks.specs.Rest.{leftAt};
 ghost use Rattle.ranks.specs.Rank.{top};
 ghost use Rattle.walk.specs.Walk.{span, solvesAt, spotOf};
 ghost use Rattle.session.specs.World.{world};
-ghost use Rattle.session.specs.Session.{courseOf, Gives};
+ghost use Rattle.session.specs.Session.{courseOf, ended, Gives};
 use crate::Answer;
 use crate::Course;
 use crate::Outcome;
@@ -37,10 +39,46 @@ fn after_end(c: Course) -> Outcome
     }
 }
 
+// Whether nothing is left at the start of a walk: for a job without a solution the question is quicker than a walk.
+fn is_empty(c: Course) -> bool
+    ensures { λ r. ⌜ (r ≡ true → leftAt (solvesAt (c .job)) (top span) (spotOf (c .spot)) ≡ []) ⌝ }
+{
+    let p = c.spot;
+    match p {
+        Spot::At(v) => {
+            if place::is_least(v) {
+                return !question::has_solution(c.job, c.operator);
+            }
+            false
+        }
+        Spot::Ended => false,
+    }
+}
+
+fn at_end(c: Course) -> Outcome
+    ensures { λ r. ⌜ (r .session .stage ≡ Stage.Walking (ended c)) × (r .answer ≡ Answer.Handed 0 true) ⌝ }
+{
+    let job = c.job;
+    let operator = c.operator;
+    Outcome {
+        session: Session {
+            stage: Stage::Walking(Course {
+                job: job,
+                spot: Spot::Ended,
+                operator: operator,
+            }),
+        },
+        answer: Answer::Handed(0, true),
+    }
+}
+
 // What is left from the spot on.
 fn from_spot(c: Course, out: &mut [i32]) -> Outcome
     ensures { λ r. ⌜ Gives (given world (c .job) (c .operator) (now (out .entry)) (leftAt (solvesAt (c .job)) (top span) (spotOf (c .spot)))) (now (out .entry)) (now (out .exit)) (r .session) (r .answer) ⌝ }
 {
+    if is_empty(c) {
+        return at_end(c);
+    }
     let job = c.job;
     let operator = c.operator;
     let from = c.spot;

@@ -3,7 +3,8 @@ ghost use mathlib.Core.Path.{_≡_};
 ghost use mathlib.Core.List.{[]};
 ghost use Rattle.calls.specs.Session.{step, rewind};
 ghost use Rattle.ranks.specs.Rest.{at, isEnded};
-ghost use Rattle.walk.specs.Walk.{spotOf};
+ghost use mathlib.Core.Bool.{true};
+ghost use Rattle.walk.specs.Walk.{rankOf, spotOf};
 ghost use Rattle.session.specs.World.{world};
 ghost use Rattle.session.specs.Session.{courseOf, outcome};
 use crate::Answer;
@@ -27,6 +28,20 @@ pub(crate) fn before_all() -> Spot
         c: LEAST,
         d: LEAST,
     })
+}
+
+// Whether a point is the least of all.
+pub(crate) fn is_least(v: Point) -> bool
+    ensures { λ r. ⌜ (r ≡ true → rankOf v ≡ 0) ⌝ }
+{
+    if v.a == LEAST {
+        if v.b == LEAST {
+            if v.c == LEAST {
+                return v.d == LEAST;
+            }
+        }
+    }
+    false
 }
 
 pub(crate) fn is_ended(p: Spot) -> bool

@@ -1,5 +1,5 @@
 use mathlib.Core.Path.{_≡_, refl, sym, ap, _∙_}
-use Rattle.session.specs.Session.{gave-gives}
+use Rattle.session.specs.Session.{gave-gives, empty-gives}
 use borrow.Author.Needs.{needs}
 use Rattle.session.proofs.hand.from_spot.Statement.{statement}
 use Rattle.session.proofs.hand.from_spot.Tie as tie
@@ -7,6 +7,12 @@ use Rattle.session.proofs.hand.from_spot.Reads as reads
 use Rattle.session.proofs.hand.from_spot.Lts as lts
 use Rattle.session.proofs.place.is_ended.Reads as is-ended-reads
 use Rattle.walk.proofs.hand_out.Reads as hand-out-reads
+
+is-empty-requires : tie.Need-is-empty-requires
+is-empty-requires c κs = search needs
+
+at-end-requires : tie.Need-at-end-requires
+at-end-requires c κs = search needs
 
 hand-out-requires : tie.Need-hand-out-requires
 hand-out-requires c κs = search needs
@@ -18,7 +24,12 @@ same-length : tie.Need-same-length
 same-length c = search needs
 
 returns : tie.Need-returns
-returns c = gave-gives (c .before .before .before .before .before .before .args .c) _ _ _ _ _ (c .before .before .hand-out .ensures) (c .is-ended .ensures)
+returns c =
+    let s = c .before .before .before in
+    rw (c .at-end .ensures .0, c .at-end .ensures .1) (empty-gives (s .args .c) (s .args .out .now) (c .before .before .is-empty .ensures (c .before .if1 .taken)))
+
+returns-2 : tie.Need-returns-2
+returns-2 c = gave-gives (c .before .before .before .before .before .before .before .before .args .c) _ _ _ _ _ (c .before .before .hand-out .ensures) (c .is-ended .ensures)
 
 pub from-spot-spec : {M : Type 1} → statement M
-from-spot-spec = tie.close (tie.spec hand-out-requires is-ended-requires same-length returns)
+from-spot-spec = tie.close (tie.spec is-empty-requires at-end-requires returns hand-out-requires is-ended-requires same-length returns-2)
