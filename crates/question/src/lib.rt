@@ -37,7 +37,7 @@ pub fn has_solution(job: Job, caller: Operator) -> bool
     } else {
         caller
     };
-    search::search(job, usable(g))
+    search::search(job, reduce::oriented(job, usable(g)))
 }
 
 // The reduction's proposal for a job. Its choice is free: it passes the operators' test, and every answer is the same whatever it is.

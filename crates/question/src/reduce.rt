@@ -24,6 +24,9 @@ const BUDGET: u64 = 32;
 // Generators and their inverses.
 const GENERATORS: u64 = 30;
 
+// The size of a line of two strips of width 1.
+const ONE: u64 = 224;
+
 // An operator, and about how large its boxes are.
 struct Reached {
     turn: Turn,
@@ -121,12 +124,18 @@ fn log(w: u64) -> u64
     n + x % 32
 }
 
-// About how many pairs a line has.
+// About how many pairs a line has, by the logarithm: one at least, and one where a strip has no width.
 fn size(s: Strips) -> u64
     requires { ⌜ Ends (s .first) × Ends (s .second) ⌝ }
     ensures { λ r. ⌜ r ≤ 2048 ⌝ }
 {
-    log(units::width(s.first)) + log(units::width(s.second))
+    let a = log(units::width(s.first));
+    let b = log(units::width(s.second));
+    if (a == 0) | (b == 0) | (a + b < ONE) {
+        ONE
+    } else {
+        a + b
+    }
 }
 
 fn measured(job: Job, g: Turn) -> Reached
@@ -180,4 +189,16 @@ pub(crate) fn reduced(job: Job) -> Turn
         n += 1;
     }
     best.turn
+}
+
+// The operator, or the operator with its two parts exchanged, so that the imaginary part has the fewer pairs: the search goes over them first.
+pub(crate) fn oriented(job: Job, g: Turn) -> Turn
+    requires { ⌜ (acceptedJob job ≡ true) × Undoing g ⌝ }
+    ensures { λ r. ⌜ Undoing r ⌝ }
+{
+    if size(real_strips(job, g)) < size(imaginary_strips(job, g)) {
+        usable(composed(sending(0, 1, 0, 0, 0, 0, 0, 1), g.there))
+    } else {
+        g
+    }
 }

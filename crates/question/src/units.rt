@@ -49,12 +49,12 @@ fn steps(a: u64, b: u64) -> u64 {
     n
 }
 
-// About hi − lo over m.
+// About 1024 times hi − lo, over m.
 pub(crate) fn width(s: Strip) -> u64
     requires { ⌜ Ends s ⌝ }
 {
     let d = combined(1, s.hi, -1, s.lo);
-    integers::abs(d.p + near_root(d.q)) / integers::abs(s.m)
+    integers::abs(d.p + near_root(d.q)) * 1024 / integers::abs(s.m)
 }
 
 pub(crate) fn balance(s: Strips) -> RootTwo

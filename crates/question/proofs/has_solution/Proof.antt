@@ -20,10 +20,15 @@ propose-requires c κs = search needs
 usable-requires : tie.Need-usable-requires
 usable-requires c κs = search needs
 
-search-requires : tie.Need-search-requires
-search-requires c κs =
+oriented-requires : tie.Need-oriented-requires
+oriented-requires c κs =
     let e = c .before .before .before in
     (sym (e .before .is-accepted .ensures) ∙ not-false _ (e .if1 .left), c .usable .ensures)
+
+search-requires : tie.Need-search-requires
+search-requires c κs =
+    let e = c .before .before .before .before in
+    (sym (e .before .is-accepted .ensures) ∙ not-false _ (e .if1 .left), c .oriented .ensures)
 
 returns-2 : tie.Need-returns-2
 returns-2 c = search needs
@@ -37,5 +42,6 @@ has-solution-spec =
     is-identity-requires
     propose-requires
     usable-requires
+    oriented-requires
     search-requires
     returns-2)

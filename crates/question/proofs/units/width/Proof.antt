@@ -1,7 +1,7 @@
 use mathlib.Core.Path.{_≡_, sym, subst}
-use Prim.Native.Nat.{_+_, _^_}
+use Prim.Native.Nat.{_^_, _≤_}
 use native.Mathlib.Omega.{arith}
-use lib.IntN.{ℤ, pos, negsuc, _+ℤ_}
+use lib.IntN.{pos, negsuc, natAbs, _+ℤ_}
 use mir.Syntax.{w64}
 use mir.Val.{SFits, toZ, ofZ}
 use mir.Facts.{toZ-ofZ}
@@ -38,11 +38,14 @@ module _ (c : tie.After-combined) where
 near-root-requires : tie.Need-near-root-requires
 near-root-requires c κs = rw (toZ-ofZ (q-fits (c .before))) (d-size (c .before) .q)
 
-sum : (c : tie.After-near-root) → SFits w64 (d (c .before .before) .p +ℤ c .near-root .result)
-sum c =
+sum-size : (c : tie.After-near-root) → natAbs (d (c .before .before) .p +ℤ c .near-root .result) ≤ 2 ^ 40
+sum-size c =
     let k = c .before .before in
     let e = rw (toZ-ofZ (q-fits k)) at (c .near-root .ensures) in
-    size→fits (omega (arith, e, d-size k .p, d-size k .q, size-+ (d k .p) (c .near-root .result)))
+    omega (arith, e, d-size k .p, d-size k .q, size-+ (d k .p) (c .near-root .result))
+
+sum : (c : tie.After-near-root) → SFits w64 (d (c .before .before) .p +ℤ c .near-root .result)
+sum c = size→fits (omega (arith, sum-size c))
 
 add-abs : tie.Need-add-abs
 add-abs c =
@@ -52,6 +55,13 @@ add-abs c =
 
 abs-requires : tie.Need-abs-requires
 abs-requires c κs = search needs
+
+mul-result : tie.Need-mul-result
+mul-result c =
+    let n = c .before .before .before in
+    let r : toZ w64 (ofZ w64 (n .near-root .result)) ≡ n .near-root .result = back w64 (n .near-root .ok) in
+    let e = simp (toZ-ofZ (p-fits (n .before .before)), r, toZ-ofZ (sum n)) at (c .abs .ensures) in
+    omega (arith, e, sum-size n)
 
 abs-requires-2 : tie.Need-abs-requires-2
 abs-requires-2 c κs = search needs
@@ -68,4 +78,4 @@ returns c = search needs
 
 pub width-spec : {M : Type 1} → statement M
 width-spec =
-    tie.close (tie.spec combined-requires near-root-requires add-abs abs-requires abs-requires-2 div-result returns)
+    tie.close (tie.spec combined-requires near-root-requires add-abs abs-requires mul-result abs-requires-2 div-result returns)
