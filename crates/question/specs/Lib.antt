@@ -1,7 +1,9 @@
 pub mod Ceiling
+pub mod Image
 pub mod Lines
 pub mod Nest
 pub mod Reach
+pub mod Rows
 pub mod Search
 pub mod Sizes
 pub mod Strips

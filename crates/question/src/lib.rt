@@ -5,9 +5,11 @@ ghost use Rattle.ranks.specs.Rest.{isNil};
 ghost use Rattle.walk.specs.Walk.{full};
 ghost use Rattle.operator.specs.declared.Check.the-variants.{Special};
 ghost use Rattle.operator.specs.Operator.{checkOf};
-ghost use Rattle.question.specs.Search.{Undoing};
+ghost use Rattle.question.specs.Image.{Undoing};
 
 mod exact;
+mod generators;
+mod image;
 mod lines;
 mod reach;
 mod reduce;

@@ -4,25 +4,22 @@ ghost use mathlib.Core.Bool.{true};
 ghost use Prim.Native.Nat.{_≤_};
 ghost use Rattle.region.specs.Region.{acceptedJob};
 ghost use Rattle.question.specs.Strips.{Ends};
-ghost use Rattle.question.specs.Search.{Undoing};
+ghost use Rattle.question.specs.Image.{Undoing};
 use crate::Turn;
-use crate::search::im;
-use crate::search::imaginary_strips;
-use crate::search::one;
-use crate::search::real_strips;
+use crate::generators::GENERATORS;
+use crate::generators::composed;
+use crate::generators::sending;
+use crate::generators::turned;
+use crate::image::imaginary_strips;
+use crate::image::real_strips;
 use crate::strips::Strips;
 use crate::units;
 use crate::usable;
-use integers::Short;
 use operator::Operator;
-use operator::WidePoint;
 use region::Job;
 
 // At most so many steps.
 const BUDGET: u64 = 32;
-
-// Generators and their inverses.
-const GENERATORS: u64 = 30;
 
 // The size of a line of two strips of width 1.
 const ONE: u64 = 224;
@@ -31,81 +28,6 @@ const ONE: u64 = 224;
 struct Reached {
     turn: Turn,
     size: u64,
-}
-
-// Four numbers of an operator, where they fit.
-enum Half {
-    Fits(i16, i16, i16, i16),
-    TooWide,
-}
-
-fn sending(a: i16, b: i16, c: i16, d: i16, ai: i16, bi: i16, ci: i16, di: i16) -> Operator {
-    Operator {
-        a: a,
-        b: b,
-        c: c,
-        d: d,
-        ai: ai,
-        bi: bi,
-        ci: ci,
-        di: di,
-    }
-}
-
-// R, K, K•, and shears by 2m + n√2: those of x, and of y.
-fn generator(i: u64) -> Operator {
-    match i {
-        0 => sending(0, 0, 1, 0, 1, 0, 0, 0),
-        1 => sending(-1, -1, 0, 0, 0, -1, 1, 0),
-        2 => sending(1, -1, 0, 0, 0, -1, -1, 0),
-        3 => sending(0, 0, 0, 1, -1, 1, 1, 0),
-        4 => sending(0, 0, 0, 1, 0, 1, 0, 2),
-        5 => sending(0, 0, 0, 1, -1, 1, 1, 2),
-        6 => sending(0, 0, 0, 1, 1, 1, -1, 2),
-        7 => sending(0, 0, 0, 1, -3, 1, 3, 4),
-        8 => sending(0, 0, 0, 1, 3, 1, -3, 4),
-        9 => sending(1, 0, 1, 1, 0, 1, 0, 0),
-        10 => sending(0, 2, 0, 1, 0, 1, 0, 0),
-        11 => sending(1, 2, 1, 1, 0, 1, 0, 0),
-        12 => sending(-1, 2, -1, 1, 0, 1, 0, 0),
-        13 => sending(3, 4, 3, 1, 0, 1, 0, 0),
-        _ => sending(-3, 4, -3, 1, 0, 1, 0, 0),
-    }
-}
-
-// The generators in turn, each with its inverse.
-fn turned(i: u64) -> Operator {
-    let g = usable(generator(i / 2));
-    if i % 2 == 0 { g.there } else { g.back }
-}
-
-fn halved(w: WidePoint) -> Half {
-    let Short::Fits(a) = integers::to_i16(w.a) else {
-        return Half::TooWide;
-    };
-    let Short::Fits(b) = integers::to_i16(w.b) else {
-        return Half::TooWide;
-    };
-    let Short::Fits(c) = integers::to_i16(w.c) else {
-        return Half::TooWide;
-    };
-    let Short::Fits(d) = integers::to_i16(w.d) else {
-        return Half::TooWide;
-    };
-    Half::Fits(a, b, c, d)
-}
-
-// The operator g after h, or h where its numbers are too large.
-fn composed(g: Operator, h: Operator) -> Operator {
-    let o = halved(g.image(one(h)));
-    let i = halved(g.image(im(h)));
-    match o {
-        Half::Fits(a, b, c, d) => match i {
-            Half::Fits(ai, bi, ci, di) => sending(a, b, c, d, ai, bi, ci, di),
-            Half::TooWide => h,
-        },
-        Half::TooWide => h,
-    }
 }
 
 // About 16 times the logarithm.

@@ -10,7 +10,7 @@ use Rattle.ring.specs.RootTwo.Order.{_⊑_, num-⊑}
 use Rattle.line.specs.declared.row.Strip.{Strip}
 use Rattle.line.specs.Row.{at, coordinate, coordinate-mono, above, above-mono, Small}
 use Rattle.line.specs.Both.{is-false}
-use Rattle.question.specs.Lines.{middle, top}
+use Rattle.question.specs.Rows.{middle, top}
 use Rattle.question.proofs.lines.first.Statement.{statement}
 use Rattle.question.proofs.lines.first.Tie as tie
 

@@ -5,7 +5,8 @@ use Prim.Native.Nat.{ℕ, _+_, _-_, _≤_, _<_}
 use native.Mathlib.Omega.{arith}
 use Rattle.ring.specs.declared.RootTwo.{RootTwo}
 use Rattle.question.specs.declared.lines.Line.{Line}
-use Rattle.question.specs.Lines.{top, Searchable}
+use Rattle.question.specs.Rows.{top}
+use Rattle.question.specs.Lines.{Searchable}
 use Rattle.question.specs.Nest.{Rows, rows-start, row-start, row-done, row-all, rows-more}
 use Rattle.question.proofs.lines.has_pair.Statement.{statement}
 use Rattle.question.proofs.lines.has_pair.Tie as tie

@@ -11,7 +11,7 @@ use Rattle.ring.specs.RootTwo.{_⊠_}
 use Rattle.region.specs.Sizes.{Sized}
 use Rattle.line.specs.Row.{at}
 use Rattle.question.specs.Sizes.{Products, products, product-size}
-use Rattle.question.specs.Lines.{pairAt}
+use Rattle.question.specs.Rows.{pairAt}
 use Rattle.question.proofs.lines.number.Statement.{statement}
 use Rattle.question.proofs.lines.number.Tie as tie
 

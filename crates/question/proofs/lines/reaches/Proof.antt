@@ -1,5 +1,5 @@
 use borrow.Author.Needs.{needs}
-use Rattle.question.specs.Lines.{near}
+use Rattle.question.specs.Rows.{near}
 use Rattle.question.proofs.lines.reaches.Statement.{statement}
 use Rattle.question.proofs.lines.reaches.Tie as tie
 

@@ -1,6 +1,6 @@
 use native.Mathlib.Omega.{arith}
 use borrow.Author.Needs.{needs}
-use Rattle.question.specs.Lines.{top, near}
+use Rattle.question.specs.Rows.{top, near}
 use Rattle.question.proofs.lines.start.Statement.{statement}
 use Rattle.question.proofs.lines.start.Tie as tie
 

@@ -9,7 +9,8 @@ use borrow.Author.Tests.{not-true}
 use Rattle.integers.specs.Size.{size→fits}
 use Rattle.line.specs.declared.row.Strip.{Strip}
 use Rattle.line.specs.Row.{Small}
-use Rattle.question.specs.Lines.{joinedOf, First, joined-small, Line-with, line-with, line-empty}
+use Rattle.question.specs.Rows.{joinedOf, First, joined-small}
+use Rattle.question.specs.Lines.{Line-with, line-with, line-empty}
 use Rattle.question.proofs.lines.with_rows.Statement.{statement}
 use Rattle.question.proofs.lines.with_rows.Tie as tie
 

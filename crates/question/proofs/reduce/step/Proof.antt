@@ -1,7 +1,7 @@
 use Prim.Native.Nat.{_-_, _≤_}
 use native.Mathlib.Omega.{arith}
 use borrow.Author.Needs.{needs}
-use Rattle.question.specs.Search.{Undoing}
+use Rattle.question.specs.Image.{Undoing}
 use Rattle.question.proofs.reduce.step.Statement.{statement}
 use Rattle.question.proofs.reduce.step.Tie as tie
 
