@@ -1,0 +1,153 @@
+// The words of a line.
+use integers::Narrow;
+use integers::Short;
+use operator::Operator;
+use ring::Point;
+use text::Number;
+
+// The numbers after the first word, no more than 15, and whether the words are numbers and no more.
+pub struct Numbers {
+    pub values: [i64; 16],
+    pub count: usize,
+    pub good: bool,
+}
+
+pub enum Four {
+    Point(Point),
+    TooWide,
+}
+
+pub enum Eight {
+    Operator(Operator),
+    TooWide,
+}
+
+// The length of a slice to be lent, at most 4,096.
+pub enum Slice {
+    Length(usize),
+    TooLong,
+}
+
+// Whether the bytes of line from at to end are those of name.
+pub fn is_name(line: &[u8], at: usize, end: usize, name: &[u8]) -> bool {
+    if end < at {
+        return false;
+    }
+    if line.len() < end {
+        return false;
+    }
+    if end - at != name.len() {
+        return false;
+    }
+    let mut i = 0;
+    while i < name.len() {
+        if line[at + i] != name[i] {
+            return false;
+        }
+        i += 1;
+    }
+    true
+}
+
+// The numbers from a place on.
+pub fn numbers_from(line: &[u8], from: usize) -> Numbers {
+    let mut values = [0i64; 16];
+    let mut count = 0;
+    let mut at = text::spaces_from(line, from);
+    let mut good = true;
+    while count < 15 {
+        if line.len() <= at {
+            break;
+        }
+        let n = text::number_at(line, at);
+        match n {
+            Number::Value(v, end) => {
+                values[count] = v;
+                good = good & ends_word(line, end);
+                at = text::spaces_from(line, end);
+            }
+            Number::Bad => {
+                good = false;
+            }
+        }
+        count += 1;
+    }
+    good = good & (line.len() <= at);
+    Numbers {
+        values,
+        count,
+        good,
+    }
+}
+
+fn ends_word(line: &[u8], at: usize) -> bool {
+    if at < line.len() {
+        return line[at] == b' ';
+    }
+    true
+}
+
+pub fn point(a: i64, b: i64, c: i64, d: i64) -> Four {
+    let Narrow::Fits(a) = integers::to_i32(a) else {
+        return Four::TooWide;
+    };
+    let Narrow::Fits(b) = integers::to_i32(b) else {
+        return Four::TooWide;
+    };
+    let Narrow::Fits(c) = integers::to_i32(c) else {
+        return Four::TooWide;
+    };
+    let Narrow::Fits(d) = integers::to_i32(d) else {
+        return Four::TooWide;
+    };
+    Four::Point(Point { a, b, c, d })
+}
+
+// The operator of the first eight numbers.
+pub fn operator_of(n: [i64; 16]) -> Eight {
+    let Short::Fits(a) = integers::to_i16(n[0]) else {
+        return Eight::TooWide;
+    };
+    let Short::Fits(b) = integers::to_i16(n[1]) else {
+        return Eight::TooWide;
+    };
+    let Short::Fits(c) = integers::to_i16(n[2]) else {
+        return Eight::TooWide;
+    };
+    let Short::Fits(d) = integers::to_i16(n[3]) else {
+        return Eight::TooWide;
+    };
+    let Short::Fits(ai) = integers::to_i16(n[4]) else {
+        return Eight::TooWide;
+    };
+    let Short::Fits(bi) = integers::to_i16(n[5]) else {
+        return Eight::TooWide;
+    };
+    let Short::Fits(ci) = integers::to_i16(n[6]) else {
+        return Eight::TooWide;
+    };
+    let Short::Fits(di) = integers::to_i16(n[7]) else {
+        return Eight::TooWide;
+    };
+    Eight::Operator(Operator {
+        a,
+        b,
+        c,
+        d,
+        ai,
+        bi,
+        ci,
+        di,
+    })
+}
+
+pub fn lent(n: i64) -> Slice {
+    if !integers::is_nonneg(n) {
+        return Slice::TooLong;
+    }
+    let m = integers::abs(n);
+    if m <= 4096 {
+        return Slice::Length(m as usize);
+    }
+    Slice::TooLong
+}
