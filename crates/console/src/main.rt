@@ -11,6 +11,8 @@ use libc::STDIN_FILENO;
 use libc::STDOUT_FILENO;
 use session::Session;
 use steps::Reply;
+use words::Command;
+use words::Numbers;
 
 fn main() {
     let mut space = input_buffer();
@@ -63,45 +65,32 @@ fn print(out: &[u8], n: usize) {
 fn reply(s: Session, line: &[u8], out: &mut [u8]) -> Reply {
     let first = text::spaces_from(line, 0);
     let end = text::word_end(line, first);
-    if words::is_name(line, first, end, b"read") {
+    let c = words::command_at(line, first, end);
+    if let Command::Read = c {
         return steps::read(s, line, end, out);
     }
     let n = words::numbers_from(line, end);
     if !n.good {
         return steps::same(s, put::bad(out));
     }
-    if words::is_name(line, first, end, b"hand") {
-        return steps::hand(s, n, out);
+    answered(s, c, n, out)
+}
+
+// The answer to a command with numbers after it.
+fn answered(s: Session, c: Command, n: Numbers, out: &mut [u8]) -> Reply {
+    match c {
+        Command::Hand => steps::hand(s, n, out),
+        Command::Rewind => steps::rewind(s, n, out),
+        Command::Clear => steps::clear(s, n, out),
+        Command::Plain => steps::same(s, steps::plain(s, n, out)),
+        Command::Image => steps::same(s, steps::image(s, n, out)),
+        Command::Sign => steps::same(s, apart::sign(n, out)),
+        Command::Line => steps::same(s, apart::line(n, out)),
+        Command::Operator => steps::same(s, apart::operator(n, out)),
+        Command::Apply => steps::same(s, apart::apply(n, out)),
+        Command::Inverse => steps::same(s, apart::inverse(n, out)),
+        Command::Exponent => steps::same(s, apart::exponent(n, out)),
+        Command::Read => steps::same(s, put::bad(out)),
+        Command::Unknown => steps::same(s, put::bad(out)),
     }
-    if words::is_name(line, first, end, b"rewind") {
-        return steps::rewind(s, n, out);
-    }
-    if words::is_name(line, first, end, b"clear") {
-        return steps::clear(s, n, out);
-    }
-    if words::is_name(line, first, end, b"plain") {
-        return steps::same(s, steps::plain(s, n, out));
-    }
-    if words::is_name(line, first, end, b"image") {
-        return steps::same(s, steps::image(s, n, out));
-    }
-    if words::is_name(line, first, end, b"sign") {
-        return steps::same(s, apart::sign(n, out));
-    }
-    if words::is_name(line, first, end, b"line") {
-        return steps::same(s, apart::line(n, out));
-    }
-    if words::is_name(line, first, end, b"operator") {
-        return steps::same(s, apart::operator(n, out));
-    }
-    if words::is_name(line, first, end, b"apply") {
-        return steps::same(s, apart::apply(n, out));
-    }
-    if words::is_name(line, first, end, b"inverse") {
-        return steps::same(s, apart::inverse(n, out));
-    }
-    if words::is_name(line, first, end, b"exponent") {
-        return steps::same(s, apart::exponent(n, out));
-    }
-    steps::same(s, put::bad(out))
 }

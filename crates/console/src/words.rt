@@ -5,6 +5,23 @@ use operator::Operator;
 use ring::Point;
 use text::Number;
 
+// What the first word of a line says.
+pub enum Command {
+    Read,
+    Hand,
+    Rewind,
+    Clear,
+    Plain,
+    Image,
+    Sign,
+    Line,
+    Operator,
+    Apply,
+    Inverse,
+    Exponent,
+    Unknown,
+}
+
 // The numbers after the first word, no more than 15, and whether the words are numbers and no more.
 pub struct Numbers {
     pub values: [i64; 16],
@@ -26,6 +43,52 @@ pub enum Eight {
 pub enum Slice {
     Length(usize),
     TooLong,
+}
+
+// The command from at to end.
+pub fn command_at(line: &[u8], at: usize, end: usize) -> Command {
+    if is_name(line, at, end, b"read") {
+        return Command::Read;
+    }
+    if is_name(line, at, end, b"hand") {
+        return Command::Hand;
+    }
+    if is_name(line, at, end, b"rewind") {
+        return Command::Rewind;
+    }
+    if is_name(line, at, end, b"clear") {
+        return Command::Clear;
+    }
+    if is_name(line, at, end, b"plain") {
+        return Command::Plain;
+    }
+    if is_name(line, at, end, b"image") {
+        return Command::Image;
+    }
+    apart(line, at, end)
+}
+
+// Those apart from the session.
+fn apart(line: &[u8], at: usize, end: usize) -> Command {
+    if is_name(line, at, end, b"sign") {
+        return Command::Sign;
+    }
+    if is_name(line, at, end, b"line") {
+        return Command::Line;
+    }
+    if is_name(line, at, end, b"operator") {
+        return Command::Operator;
+    }
+    if is_name(line, at, end, b"apply") {
+        return Command::Apply;
+    }
+    if is_name(line, at, end, b"inverse") {
+        return Command::Inverse;
+    }
+    if is_name(line, at, end, b"exponent") {
+        return Command::Exponent;
+    }
+    Command::Unknown
 }
 
 // Whether the bytes of line from at to end are those of name.
