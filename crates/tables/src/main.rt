@@ -1,4 +1,4 @@
-// Compares tables of another implementation (data/, one row a line) with what the library answers, and prints how many rows differ.
+// Compares tables of another implementation (data/, one row a line) with what the library answers, and prints how many rows differ; then numbers of two words about 2^64 and 2^128.
 ghost use Rattle.io.specs.Counts.{Counts};
 
 mod exponent;
@@ -9,6 +9,7 @@ mod sign;
 
 use libc::STDOUT_FILENO;
 use row::Tally;
+use text::Wide;
 
 fn main() {
     let mut space = io::large_buffer();
@@ -22,6 +23,17 @@ fn main() {
     report(b"apply", operators::compare_images(&space[..n]));
     let n = load(b"line.txt", &mut space);
     report(b"line", lines::compare(&space[..n]));
+    print_wide(0, 18446744073709551615);
+    print_wide(1, 0);
+    print_wide(18446744073709551615, 18446744073709551615);
+}
+
+// A number of two words in decimal, on a line.
+fn print_wide(hi: u64, lo: u64) {
+    let mut line = io::buffer();
+    let n = text::put_wide(&mut line, 0, Wide { hi, lo });
+    io::write_all(STDOUT_FILENO, &line[..n]);
+    io::write_all(STDOUT_FILENO, b"\n");
 }
 
 // The file's bytes at the start of space, and how many; none where it cannot be opened.
