@@ -220,7 +220,11 @@ pub fn exponent(n: Numbers, out: &mut [u8]) -> usize {
     if 12 < k {
         return put::refused(out, Refusal::OutOfRange);
     }
-    let e = v.exponent(k as u8);
+    put_exponent(v, k as u8, out)
+}
+
+fn put_exponent(v: Point, k: u8, out: &mut [u8]) -> usize {
+    let e = v.exponent(k);
     let at = put::begin(out);
     let at = put::unsigned(out, at, e as u64);
     let at = put::unsigned(out, at, ring::pulse_count(e));

@@ -166,30 +166,34 @@ pub fn point(a: i64, b: i64, c: i64, d: i64) -> Four {
     Four::Point(Point { a, b, c, d })
 }
 
+// Four numbers of 16 bits.
+enum Shorts {
+    Fit(i16, i16, i16, i16),
+    TooWide,
+}
+
+fn shorts_of(a: i64, b: i64, c: i64, d: i64) -> Shorts {
+    let Short::Fits(a) = integers::to_i16(a) else {
+        return Shorts::TooWide;
+    };
+    let Short::Fits(b) = integers::to_i16(b) else {
+        return Shorts::TooWide;
+    };
+    let Short::Fits(c) = integers::to_i16(c) else {
+        return Shorts::TooWide;
+    };
+    let Short::Fits(d) = integers::to_i16(d) else {
+        return Shorts::TooWide;
+    };
+    Shorts::Fit(a, b, c, d)
+}
+
 // The operator of the first eight numbers.
 pub fn operator_of(n: [i64; 16]) -> Eight {
-    let Short::Fits(a) = integers::to_i16(n[0]) else {
+    let Shorts::Fit(a, b, c, d) = shorts_of(n[0], n[1], n[2], n[3]) else {
         return Eight::TooWide;
     };
-    let Short::Fits(b) = integers::to_i16(n[1]) else {
-        return Eight::TooWide;
-    };
-    let Short::Fits(c) = integers::to_i16(n[2]) else {
-        return Eight::TooWide;
-    };
-    let Short::Fits(d) = integers::to_i16(n[3]) else {
-        return Eight::TooWide;
-    };
-    let Short::Fits(ai) = integers::to_i16(n[4]) else {
-        return Eight::TooWide;
-    };
-    let Short::Fits(bi) = integers::to_i16(n[5]) else {
-        return Eight::TooWide;
-    };
-    let Short::Fits(ci) = integers::to_i16(n[6]) else {
-        return Eight::TooWide;
-    };
-    let Short::Fits(di) = integers::to_i16(n[7]) else {
+    let Shorts::Fit(ai, bi, ci, di) = shorts_of(n[4], n[5], n[6], n[7]) else {
         return Eight::TooWide;
     };
     Eight::Operator(Operator {
