@@ -8,3 +8,4 @@ pub mod Search
 pub mod Sizes
 pub mod Strips
 pub mod Units
+pub mod Void

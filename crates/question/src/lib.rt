@@ -16,6 +16,7 @@ mod reduce;
 mod search;
 mod strips;
 mod units;
+mod void;
 
 use operator::Inverse;
 use operator::Operator;
@@ -32,6 +33,14 @@ pub fn has_solution(job: Job, caller: Operator) -> bool
     ensures { λ r. ⌜ r ≡ not (isNil (full job)) ⌝ }
 {
     if !job.is_accepted() {
+        return false;
+    }
+    let a = job.a;
+    let b = job.b;
+    if void::is_void(a) {
+        return false;
+    }
+    if void::is_void(b) {
         return false;
     }
     let g = if is_identity(caller) {

@@ -2,6 +2,7 @@ use mathlib.Core.Path.{sym, _∙_}
 use borrow.Author.Needs.{needs}
 use borrow.Author.Tests.{not-true, not-false}
 use Rattle.question.specs.Search.{refused-none}
+use Rattle.question.specs.Void.{void-first, void-second}
 use Rattle.question.proofs.has_solution.Statement.{statement}
 use Rattle.question.proofs.has_solution.Tie as tie
 
@@ -10,6 +11,18 @@ is-accepted-requires c κs = search needs
 
 returns : tie.Need-returns
 returns c = refused-none (c .before .before .args .job) (sym (c .before .is-accepted .ensures) ∙ not-true _ (c .if1 .taken))
+
+is-void-requires : tie.Need-is-void-requires
+is-void-requires c κs = search needs
+
+returns-2 : tie.Need-returns-2
+returns-2 c = void-first (c .before .before .before .before .args .job) (c .before .is-void .ensures (c .if2 .taken))
+
+is-void-requires-2 : tie.Need-is-void-requires-2
+is-void-requires-2 c κs = search needs
+
+returns-3 : tie.Need-returns-3
+returns-3 c = void-second (c .before .before .before .before .before .before .args .job) (c .before .is-void2 .ensures (c .if3 .taken))
 
 is-identity-requires : tie.Need-is-identity-requires
 is-identity-requires c κs = search needs
@@ -22,16 +35,16 @@ usable-requires c κs = search needs
 
 oriented-requires : tie.Need-oriented-requires
 oriented-requires c κs =
-    let e = c .before .before .before in
+    let e = c .before .before .before .before .before .before .before in
     (sym (e .before .is-accepted .ensures) ∙ not-false _ (e .if1 .left), c .usable .ensures)
 
 search-requires : tie.Need-search-requires
 search-requires c κs =
-    let e = c .before .before .before .before in
+    let e = c .before .before .before .before .before .before .before .before in
     (sym (e .before .is-accepted .ensures) ∙ not-false _ (e .if1 .left), c .oriented .ensures)
 
-returns-2 : tie.Need-returns-2
-returns-2 c = search needs
+returns-4 : tie.Need-returns-4
+returns-4 c = search needs
 
 pub has-solution-spec : {M : Type 1} → statement M
 has-solution-spec =
@@ -39,9 +52,13 @@ has-solution-spec =
     (tie.spec
     is-accepted-requires
     returns
+    is-void-requires
+    returns-2
+    is-void-requires-2
+    returns-3
     is-identity-requires
     propose-requires
     usable-requires
     oriented-requires
     search-requires
-    returns-2)
+    returns-4)
