@@ -1,6 +1,7 @@
 // The plain question: document 01, "The walk", searched in the coordinates of an operator; and the reduction, which proposes an operator.
 ghost use mathlib.Core.Path.{_≡_};
-ghost use mathlib.Core.Bool.{not};
+ghost use mathlib.Core.Bool.{true, not};
+ghost use Rattle.region.specs.Region.{acceptedJob};
 ghost use Rattle.ranks.specs.Rest.{isNil};
 ghost use Rattle.walk.specs.Walk.{full};
 ghost use Rattle.operator.specs.declared.Check.the-variants.{Special};
@@ -28,7 +29,8 @@ pub(crate) struct Turn {
     pub back: Operator,
 }
 
-// Whether a job has a solution, searched in the coordinates of an operator: the caller's where it is not the identity, else the reduction's proposal.
+// Whether a job has a solution, searched in the coordinates of an operator: the caller's where it is not the identity and its boxes are not large, else the reduction's
+// proposal.
 pub fn has_solution(job: Job, caller: Operator) -> bool
     ensures { λ r. ⌜ r ≡ not (isNil (full job)) ⌝ }
 {
@@ -43,12 +45,17 @@ pub fn has_solution(job: Job, caller: Operator) -> bool
     if void::is_void(b) {
         return false;
     }
-    let g = if is_identity(caller) {
-        propose(job)
-    } else {
-        caller
-    };
-    search::search(job, reduce::oriented(job, usable(g)))
+    search::search(job, reduce::oriented(job, in_force(job, caller)))
+}
+
+fn in_force(job: Job, caller: Operator) -> Turn
+    requires { ⌜ acceptedJob job ≡ true ⌝ }
+    ensures { λ r. ⌜ Undoing r ⌝ }
+{
+    if is_identity(caller) {
+        return reduce::reduced(job);
+    }
+    reduce::chosen(job, usable(caller))
 }
 
 // The reduction's proposal for a job. Its choice is free: it passes the operators' test, and every answer is the same whatever it is.

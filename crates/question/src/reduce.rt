@@ -24,6 +24,9 @@ const BUDGET: u64 = 32;
 // The size of a line of two strips of width 1.
 const ONE: u64 = 224;
 
+// The size of the boxes of some 65,000 candidates: two lines, and 16 for each doubling.
+const LARGE: u64 = 704;
+
 // An operator, and about how large its boxes are.
 struct Reached {
     turn: Turn,
@@ -111,6 +114,19 @@ pub(crate) fn reduced(job: Job) -> Turn
         n += 1;
     }
     best.turn
+}
+
+// The operator, or the reduction's where the operator's boxes are large and the reduction's smaller.
+pub(crate) fn chosen(job: Job, g: Turn) -> Turn
+    requires { ⌜ (acceptedJob job ≡ true) × Undoing g ⌝ }
+    ensures { λ r. ⌜ Undoing r ⌝ }
+{
+    let m = measured(job, g);
+    if m.size < LARGE {
+        return g;
+    }
+    let r = better(measured(job, reduced(job)), m);
+    r.turn
 }
 
 // The operator, or the operator with its two parts exchanged, so that the imaginary part has the fewer pairs: the search goes over them first.

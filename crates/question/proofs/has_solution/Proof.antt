@@ -24,23 +24,17 @@ is-void-requires-2 c κs = search needs
 returns-3 : tie.Need-returns-3
 returns-3 c = void-second (c .before .before .before .before .before .before .args .job) (c .before .is-void2 .ensures (c .if3 .taken))
 
-is-identity-requires : tie.Need-is-identity-requires
-is-identity-requires c κs = search needs
-
-propose-requires : tie.Need-propose-requires
-propose-requires c κs = search needs
-
-usable-requires : tie.Need-usable-requires
-usable-requires c κs = search needs
+in-force-requires : tie.Need-in-force-requires
+in-force-requires c κs = let e = c .before .before .before .before in sym (e .before .is-accepted .ensures) ∙ not-false _ (e .if1 .left)
 
 oriented-requires : tie.Need-oriented-requires
 oriented-requires c κs =
-    let e = c .before .before .before .before .before .before .before in
-    (sym (e .before .is-accepted .ensures) ∙ not-false _ (e .if1 .left), c .usable .ensures)
+    let e = c .before .before .before .before .before in
+    (sym (e .before .is-accepted .ensures) ∙ not-false _ (e .if1 .left), c .in-force .ensures)
 
 search-requires : tie.Need-search-requires
 search-requires c κs =
-    let e = c .before .before .before .before .before .before .before .before in
+    let e = c .before .before .before .before .before .before in
     (sym (e .before .is-accepted .ensures) ∙ not-false _ (e .if1 .left), c .oriented .ensures)
 
 returns-4 : tie.Need-returns-4
@@ -56,9 +50,7 @@ has-solution-spec =
     returns-2
     is-void-requires-2
     returns-3
-    is-identity-requires
-    propose-requires
-    usable-requires
+    in-force-requires
     oriented-requires
     search-requires
     returns-4)
