@@ -6,6 +6,7 @@ mod job;
 mod line;
 mod lines;
 mod member;
+mod pack;
 mod random;
 mod root2;
 #[cfg(test)]
@@ -34,7 +35,8 @@ const LONGEST_INPUT: usize = 65_536;
 const USAGE: &str = "usage: peer [list | count | first] < job
        peer line NA LO HI NB LO HI [A B]
        peer sign P Q
-       peer gen SEED COUNT DIR";
+       peer gen SEED COUNT DIR
+       peer pack < records > job";
 
 type Outcome = Result<(), Box<dyn Error>>;
 
@@ -66,6 +68,7 @@ fn run(arguments: &[String]) -> Outcome {
         ("gen", [seed, count, directory]) => {
             generate(number(seed)?, number(count)?, Path::new(directory))
         }
+        ("pack", []) => pack(),
         _ => Err(USAGE.into()),
     }
 }
@@ -158,6 +161,13 @@ fn line(numbers: &[i64]) -> Outcome {
         writeln!(out, "{a} {b}")?;
     }
     Ok(out.flush()?)
+}
+
+/// Writes the job that standard input spells in words.
+fn pack() -> Outcome {
+    let mut text = String::new();
+    io::stdin().lock().read_to_string(&mut text)?;
+    Ok(io::stdout().write_all(&pack::pack(&text)?)?)
 }
 
 fn generate(seed: u64, count: u32, directory: &Path) -> Outcome {

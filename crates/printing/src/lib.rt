@@ -1,0 +1,77 @@
+// What the list program writes for an input: document 01, "The list program". What decides is in `listing`.
+ghost use mathlib.Core.Path.{_≡_};
+ghost use mathlib.Core.Bool.{true};
+ghost use Prim.Native.Nat.{_<_};
+ghost use lib.ListN.{length};
+ghost use Rattle.session.specs.Session.{meaning};
+ghost use Rattle.listing.specs.Given.{leftOf};
+use listing::Input;
+use listing::Page;
+use record::Refusal;
+use session::Session;
+use text::Wide;
+
+// One byte more than an input may have.
+pub fn input_buffer() -> [u8; 65537]
+    ensures { λ r. ⌜ 65537 ≡ length r ⌝ }
+{
+    [0; 65537]
+}
+
+// All that is printed for an input.
+pub fn print_list(fd: i32, bytes: &[u8]) {
+    let input = listing::load(bytes);
+    match input {
+        Input::TooLong => print(fd, b"too long\n"),
+        Input::Refused(f, at) => print_refusal(fd, f, at),
+        Input::Job(s) => print_all(fd, s),
+    }
+}
+
+pub fn print(fd: i32, text: &[u8]) {
+    io::write_all(fd, text);
+}
+
+fn print_refusal(fd: i32, f: Refusal, at: usize) {
+    let mut line = io::buffer();
+    let n = listing::put_refusal(&mut line, 0, f, at);
+    print(fd, &line[..n]);
+}
+
+// The lines of all solutions, and their number.
+fn print_all(fd: i32, s: Session) {
+    let mut left = s;
+    let mut total = Wide { hi: 0, lo: 0 };
+    let mut more = true;
+    while more {
+        let p = print_page(fd, left);
+        total = total.plus(p.count as u64);
+        left = p.session;
+        more = p.more;
+    }
+    print_end(fd, total);
+}
+
+// Room for the lines of 1,024 points.
+fn output_buffer() -> [u8; 131072]
+    ensures { λ r. ⌜ 131072 ≡ length r ⌝ }
+{
+    [0; 131072]
+}
+
+// One hand-out's lines.
+fn print_page(fd: i32, s: Session) -> Page
+    ensures { λ r. ⌜ (r .more ≡ true → leftOf (meaning (r .session)) < leftOf (meaning s)) ⌝ }
+{
+    let mut out = output_buffer();
+    let p = listing::next(s, &mut out);
+    let n = p.length;
+    print(fd, &out[..n]);
+    p
+}
+
+fn print_end(fd: i32, total: Wide) {
+    let mut line = io::buffer();
+    let n = listing::put_end(&mut line, 0, total);
+    print(fd, &line[..n]);
+}
