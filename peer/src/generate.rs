@@ -252,6 +252,11 @@ impl Generator {
         joined(&records)
     }
 
+    /// The bytes of an operator that is accepted.
+    pub fn operator_bytes(&mut self) -> Vec<u8> {
+        self.special_operator().bytes()
+    }
+
     fn special_operator(&mut self) -> Record {
         self.operator(Ok(()))
     }

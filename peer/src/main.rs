@@ -1,6 +1,7 @@
 //! A second, independent list program, with a few modes for comparing.
 
 mod bounds;
+mod bytes;
 mod generate;
 mod job;
 mod line;
@@ -36,7 +37,8 @@ const USAGE: &str = "usage: peer [list | count | first] < job
        peer line NA LO HI NB LO HI [A B]
        peer sign P Q
        peer gen SEED COUNT DIR
-       peer pack < records > job";
+       peer pack < records > job
+       peer bytes PROGRAM FROM TO STEP";
 
 type Outcome = Result<(), Box<dyn Error>>;
 
@@ -57,7 +59,7 @@ fn run(arguments: &[String]) -> Outcome {
         Some((mode, rest)) => (mode.as_str(), rest),
     };
     match (mode, rest) {
-        ("list", []) => with_job(list),
+        ("list", []) => list(&input()?, io::stdout().lock()),
         ("count", []) => with_job(count),
         ("first", []) => with_job(first),
         ("line", _) => line(&numbers(rest)?),
@@ -69,6 +71,9 @@ fn run(arguments: &[String]) -> Outcome {
             generate(number(seed)?, number(count)?, Path::new(directory))
         }
         ("pack", []) => pack(),
+        ("bytes", [program, from, to, step]) => {
+            check_bytes(program, number(from)?, number(to)?, number(step)?)
+        }
         _ => Err(USAGE.into()),
     }
 }
@@ -85,21 +90,39 @@ fn say(text: impl Display) -> Outcome {
     Ok(writeln!(io::stdout(), "{text}")?)
 }
 
-/// Reads a job from standard input and hands it on; a refusal is printed.
-fn with_job(act: impl FnOnce(&Job) -> Outcome) -> Outcome {
+/// Standard input, up to one byte more than it may have.
+fn input() -> io::Result<Vec<u8>> {
     let mut input = Vec::new();
     io::stdin().lock().take(LONGEST_INPUT as u64 + 1).read_to_end(&mut input)?;
+    Ok(input)
+}
+
+/// The job that an input spells, or what is printed instead of its list.
+fn job_of(input: &[u8]) -> Result<Job, String> {
     if input.len() > LONGEST_INPUT {
-        return say("too long");
+        return Err("too long".into());
     }
-    match job::read(&input) {
+    job::read(input).map_err(|refusal| format!("refused {} at {}", refusal.number, refusal.at))
+}
+
+/// Reads a job from standard input and hands it on; a refusal is printed.
+fn with_job(act: impl FnOnce(&Job) -> Outcome) -> Outcome {
+    match job_of(&input()?) {
         Ok(job) => act(&job),
-        Err(refusal) => say(format!("refused {} at {}", refusal.number, refusal.at)),
+        Err(instead) => say(instead),
     }
 }
 
-fn list(job: &Job) -> Outcome {
-    let mut lines = Lines::new(io::stdout().lock(), job.k);
+/// Writes what the list program prints for an input.
+fn list(input: &[u8], mut out: impl Write) -> Outcome {
+    match job_of(input) {
+        Ok(job) => list_job(&job, out),
+        Err(instead) => Ok(writeln!(out, "{instead}")?),
+    }
+}
+
+fn list_job(job: &Job, out: impl Write) -> Outcome {
+    let mut lines = Lines::new(out, job.k);
     let mut written = Ok(());
     let mut count: u128 = 0;
     Walk::new(job).run(|v| {
@@ -168,6 +191,19 @@ fn pack() -> Outcome {
     let mut text = String::new();
     io::stdin().lock().read_to_string(&mut text)?;
     Ok(io::stdout().write_all(&pack::pack(&text)?)?)
+}
+
+/// Runs a list program on bytes of each length.
+fn check_bytes(program: &str, from: usize, to: usize, step: usize) -> Outcome {
+    let mut agreed = 0;
+    for length in (from..=to).step_by(step) {
+        agreed += bytes::check(program, length, |input| {
+            let mut printed = Vec::new();
+            list(input, &mut printed)?;
+            Ok(printed)
+        })?;
+    }
+    say(format!("{agreed} inputs agreed"))
 }
 
 fn generate(seed: u64, count: u32, directory: &Path) -> Outcome {
