@@ -1,4 +1,4 @@
-// What the list program writes for an input: document 01, "The list program". What decides is in `listing`.
+// What the list program writes for an input: document 01, "The list program"; and the same without the solutions' lines, for timing. What decides is in `listing`.
 ghost use mathlib.Core.Path.{_≡_};
 ghost use mathlib.Core.Bool.{true};
 ghost use Prim.Native.Nat.{_<_};
@@ -8,6 +8,7 @@ ghost use Rattle.listing.specs.Given.{leftOf};
 use listing::Input;
 use listing::Page;
 use record::Refusal;
+use session::Answer;
 use session::Session;
 use text::Wide;
 
@@ -20,11 +21,20 @@ pub fn input_buffer() -> [u8; 65537]
 
 // All that is printed for an input.
 pub fn print_list(fd: i32, bytes: &[u8]) {
+    print_input(fd, bytes, true);
+}
+
+// The same without the lines of the solutions: their number alone, or why there is none.
+pub fn print_count(fd: i32, bytes: &[u8]) {
+    print_input(fd, bytes, false);
+}
+
+fn print_input(fd: i32, bytes: &[u8], lines: bool) {
     let input = listing::load(bytes);
     match input {
         Input::TooLong => print(fd, b"too long\n"),
         Input::Refused(f, at) => print_refusal(fd, f, at),
-        Input::Job(s) => print_all(fd, s),
+        Input::Job(s) => print_all(fd, s, lines),
     }
 }
 
@@ -38,18 +48,59 @@ fn print_refusal(fd: i32, f: Refusal, at: usize) {
     print(fd, &line[..n]);
 }
 
-// The lines of all solutions, and their number.
-fn print_all(fd: i32, s: Session) {
+// All solutions, each with its line or without, and their number.
+fn print_all(fd: i32, s: Session, lines: bool) {
     let mut left = s;
     let mut total = Wide { hi: 0, lo: 0 };
     let mut more = true;
     while more {
-        let p = print_page(fd, left);
+        let p = page(fd, left, lines);
         total = total.plus(p.count as u64);
         left = p.session;
         more = p.more;
     }
     print_end(fd, total);
+}
+
+// One hand-out, printed or not.
+fn page(fd: i32, s: Session, lines: bool) -> Page
+    ensures { λ r. ⌜ (r .more ≡ true → leftOf (meaning (r .session)) < leftOf (meaning s)) ⌝ }
+{
+    if lines {
+        print_page(fd, s)
+    } else {
+        count_page(s)
+    }
+}
+
+// One hand-out of at most 1,024 points without its lines.
+fn count_page(s: Session) -> Page
+    ensures { λ r. ⌜ (r .more ≡ true → leftOf (meaning (r .session)) < leftOf (meaning s)) ⌝ }
+{
+    let mut points = point_buffer();
+    let o = session::hand_out(s, &mut points);
+    let session = o.session;
+    let a = o.answer;
+    let Answer::Handed(count, end) = a else {
+        return Page {
+            session,
+            count: 0,
+            more: false,
+            length: 0,
+        };
+    };
+    Page {
+        session,
+        count,
+        more: !end,
+        length: 0,
+    }
+}
+
+fn point_buffer() -> [i32; 4096]
+    ensures { λ r. ⌜ 4096 ≡ length r ⌝ }
+{
+    [0; 4096]
 }
 
 // Room for the lines of 1,024 points.

@@ -19,16 +19,16 @@ less true n m h = let k = h refl in omega arith
 less false n m h = omega arith
 
 abbrev Inv-loop : tie.InvT-loop
-Inv-loop fd left₀ total₀ more₀ left total more = Unit {0}
+Inv-loop fd lines left₀ total₀ more₀ left total more = Unit {0}
 
 abbrev μ-loop : tie.MeasureT-loop
-μ-loop fd left₀ total₀ more₀ left total more = weight more (leftOf (meaning left))
+μ-loop fd lines left₀ total₀ more₀ left total more = weight more (leftOf (meaning left))
 
 loop-holds : tie.Need-loop-holds Inv-loop μ-loop
 loop-holds c = tt
 
-print-page-requires : tie.Need-print-page-requires Inv-loop μ-loop
-print-page-requires c κs = search needs
+page-requires : tie.Need-page-requires Inv-loop μ-loop
+page-requires c κs = search needs
 
 plus-requires : tie.Need-plus-requires Inv-loop μ-loop
 plus-requires c κs = search needs
@@ -38,7 +38,7 @@ loop-less c =
     let p = c .before .before in
     let l = p .before .before in
     rw (p .before .loop-test .taken)
-    (less (p .print-page .result .more) (leftOf (meaning (p .print-page .result .session))) (leftOf (meaning (l .loop .left))) (p .print-page .ensures))
+    (less (p .page .result .more) (leftOf (meaning (p .page .result .session))) (leftOf (meaning (l .loop .left))) (p .page .ensures))
 
 loop-again : tie.Need-loop-again Inv-loop μ-loop
 loop-again c = tt
@@ -56,7 +56,7 @@ print-all-spec =
     Inv-loop
     μ-loop
     loop-holds
-    print-page-requires
+    page-requires
     plus-requires
     loop-less
     loop-again
