@@ -1,113 +1,158 @@
 #!/usr/bin/env bash
-# bench.sh PROGRAM: times PROGRAM and the peer on the same jobs, one after the
-# other, output to /dev/null. The table has processor seconds, user and system,
-# as the machine may be shared. LIMIT sets the seconds, by the clock, that each
-# run may take.
+# bench.sh BIN: everything that docs/BENCHMARKS.md reports. BIN has the proved
+# programs list, count and console (target/bin). Times are processor seconds,
+# user and system, of whole runs, as the machine may be shared. LIMIT sets the
+# seconds by the clock that a call may take, 10 if unset, and LIST_LIMIT those
+# of a whole list, 60 if unset. The skewed jobs are many: EVERY=n takes each
+# n-th of them, 1 if unset.
 set -u
-[ $# -eq 1 ] || { echo "usage: $0 PROGRAM" >&2; exit 2; }
-program=$1
-limit=${LIMIT:-20}
+[ $# -eq 1 ] || { echo "usage: $0 BIN" >&2; exit 2; }
+bin=$1
+call_limit=${LIMIT:-10}
+list_limit=${LIST_LIMIT:-60}
+every=${EVERY:-1}
 peer=${PEER:-$(dirname "$0")/target/release/peer}
 scratch=$(mktemp -d) || exit 2
 trap 'rm -rf "$scratch"' EXIT
+jobs=$scratch/jobs
+"$peer" jobs "$jobs" || exit 2
 
-# little BYTES VALUE: a little-endian number, negative ones in two's complement.
-little() {
-    local i
-    for ((i = 0; i < $1; i++)); do
-        # shellcheck disable=SC2059
-        printf "\\x$(printf '%02x' $((($2 >> (8 * i)) & 255)))"
-    done
-}
-
-scale() { little 1 1; little 1 "$1"; }
-
-# rectangle N XL XH YL YH
-rectangle() {
-    local side
-    little 1 2; little 2 "$1"
-    for side in "${@:2}"; do little 4 "$side"; done
-}
-
-# ellipse N CX CY P Q R S
-ellipse() {
-    little 1 3; little 2 "$1"; little 4 "$2"; little 4 "$3"
-    little 2 "$4"; little 2 "$5"; little 2 "$6"; little 4 "$7"
-}
-
-# seconds COMMAND...: the time that it takes on the job, or > LIMIT.
-seconds() {
+# run LIMIT INPUT COMMAND...: sets took to the processor seconds, or to `over`
+# where the limit passed. What it prints goes to the file `printed`.
+run() {
     local status TIMEFORMAT='%U %S'
-    { time timeout "$limit" "$@" <"$scratch/job" >/dev/null 2>&1; } 2>"$scratch/time"
+    { time timeout "$1" "${@:3}" <"$2" >"$printed" 2>"$scratch/said"; } 2>"$scratch/time"
     status=$?
     case $status in
-        124) printf '> %s' "$limit" ;;
-        12[5-9] | 1[3-9]? | 2??) printf 'failed' ;;
-        *) awk '{ printf "%.3f", $1 + $2 }' "$scratch/time" ;;
+        0) took=$(awk '{ printf "%.3f", $1 + $2 }' "$scratch/time") ;;
+        124) took=over ;;
+        *) echo "failed with $status: ${*:3} on $2" >&2; exit 1 ;;
     esac
 }
 
-# measure NAME K A B: A and B are words of `rectangle` or `ellipse` calls.
-measure() {
-    local name="$1, k = $2" ours theirs lines=- candidates=-
-    # shellcheck disable=SC2086
-    { scale "$2"; $3; $4; } >"$scratch/job"
-    theirs=$(seconds "$program")
-    ours=$(seconds "$peer" list)
-    if [[ $ours != '>'* ]]; then
-        lines=$("$peer" count <"$scratch/job" 2>"$scratch/count")
-        lines=${lines#end }
-        candidates=$(awk '{ print $2 }' "$scratch/count")
-    fi
-    printf '%-46s %9s %9s %10s %12s\n' "$name" "$theirs" "$ours" "$lines" "$candidates"
+# ratio A B: A / B, or a dash where one is missing or too short to say.
+ratio() {
+    awk -v a="$1" -v b="$2" 'BEGIN { if (a == "over" || b == "over" || b < 0.01) print "-"; else printf "%.2f", a / b }'
 }
 
-printf '%-46s %9s %9s %10s %12s\n' job program peer lines candidates
+whole_lists() {
+    local row='%-28s %11s %12s %8s %8s %6s %8s %8s %6s\n' job ours theirs count_ours count_theirs points candidates
+    echo "Whole lists, printed, and the search alone (count), with the peer's candidates"
+    # shellcheck disable=SC2059
+    printf "$row" job points candidates list peer ratio count peer ratio
+    for job in "$jobs"/{disks,tilted,whole}-*.job; do
+        printed=/dev/null
+        run "$list_limit" "$job" "$bin/list"; ours=$took
+        run "$list_limit" "$job" "$peer" list; theirs=$took
+        printed=$scratch/printed
+        run "$list_limit" "$job" "$peer" count; count_theirs=$took
+        candidates=$(awk '{ print $2 }' "$scratch/said")
+        run "$list_limit" "$job" "$bin/count"; count_ours=$took
+        points=$(sed 's/^end //' "$printed")
+        # shellcheck disable=SC2059
+        printf "$row" "$(basename "$job" .job)" "${points:--}" "${candidates:--}" "$ours" "$theirs" "$(ratio "$ours" "$theirs")" \
+            "$count_ours" "$count_theirs" "$(ratio "$count_ours" "$count_theirs")"
+    done
+}
 
-disk='ellipse 1 0 0 1 0 1 1'
-for k in 8 10 12; do
-    measure 'unit disks' $k "$disk" "$disk"
-done
+# console CALL JOB: sets answer to a console's last answer to the job's records
+# and CALL; empty where the limit passed.
+console() {
+    printed=$scratch/printed
+    { cat "${2%.job}.reads"; echo "$1"; } >"$scratch/in"
+    run "$call_limit" "$scratch/in" "$bin/console"
+    answer=$(tail -n 1 "$printed")
+    [ "$took" != over ] || answer=
+}
 
-# Semi-axes 0.107 and 0.00093, tilted.
-thin='ellipse 100 0 0 50 57 65 1'
-thin_off='ellipse 100 55 31 50 -57 65 1'
-for k in 8 9 10 11 12; do
-    measure 'A 0.1 by 0.001, B unit disk' $k "$thin" "$disk"
-    measure 'A the same elsewhere, B unit disk' $k "$thin_off" "$disk"
-done
+# A hand-out of one point and the plain question, which have to agree.
+both_calls() {
+    local job first
+    for job in "$@"; do
+        console 'hand 4' "$job"
+        first=$answer
+        echo "$took $(basename "$job" .job)" >>"$scratch/first"
+        console plain "$job"
+        echo "$took $(basename "$job" .job)" >>"$scratch/plain"
+        case $first/$answer in
+            'ok 1 '*/'ok yes' | 'ok 0 yes/ok no' | /* | */) ;;
+            *) echo "hand and plain differ on $job" >&2; exit 1 ;;
+        esac
+    done
+}
 
-# PR less Q² is 19 and 1; S and n set the size.
-skewed() { echo "ellipse $1 0 0 100 91 83 $2"; }
-crossed() { echo "ellipse $1 0 0 65 -73 82 $2"; }
-for k in 0 4; do
-    measure 'A, B skewed, n 100, S 1000000' $k "$(skewed 100 1000000)" "$(crossed 100 1000000)"
-done
-for k in 4 8; do
-    measure 'A, B skewed, n 100, S 10000' $k "$(skewed 100 10000)" "$(crossed 100 10000)"
-done
-for k in 8 12; do
-    measure 'A, B skewed, n 100, S 100' $k "$(skewed 100 100)" "$(crossed 100 100)"
-done
-measure 'A, B skewed, n 100, S 1' 12 "$(skewed 100 1)" "$(crossed 100 1)"
-measure 'A, B skewed, n 1, S 1' 0 "$(skewed 1 1)" "$(crossed 1 1)"
-for k in 0 4; do
-    measure 'A, B skewed, off centre, n 7, S 1000' $k \
-        'ellipse 7 123 -456 83 -91 100 1000' 'ellipse 7 -30 40 82 73 65 1000'
-done
-for k in 0 6 12; do
-    measure 'A skewed, n 100, S 100, B unit disk' $k "$(skewed 100 100)" "$disk"
-done
-measure 'A skewed, n 1, S 1000000, B n 100, S 1' 0 "$(skewed 1 1000000)" "$(crossed 100 1)"
-measure 'A skewed, n 1, S 1000000, B n 100, S 1' 4 "$(skewed 1 1000000)" "$(crossed 100 1)"
+# tell FAMILY CALL TARGET FILE: how many keep the target, and the worst.
+tell() {
+    awk -v family="$1" -v call="$2" -v target="$3" '
+        $1 == "over" { over++; last = $2 }
+        $1 != "over" && $1 <= target { within++ }
+        $1 != "over" && $1 >= worst { worst = $1; name = $2 }
+        END { printf "%-8s %-6s %5d %7s %6d %6d %8.3f  %s%s\n", family, call, NR, target, within, over, worst, name, (over ? "; over the limit: " last : "") }
+    ' "$4"
+}
 
-square='rectangle 1 -10000 10000 -10000 10000'
-for k in 0 6 12; do
-    measure 'A one point, B all' $k 'rectangle 1 0 0 0 0' "$square"
-    measure 'A one point off the grid, B all' $k 'ellipse 3 1 1 1 0 1 0' "$square"
-    measure 'A all, B one point' $k "$square" 'ellipse 1 1 2 1 0 1 0'
-    measure 'A zero width, B thin and high' $k 'rectangle 1 1 1 -10 10' 'rectangle 1 -10000 10000 0 1'
-    measure 'A zero width off the grid, B all' $k 'rectangle 3 1 1 -10000 10000' "$square"
-    measure 'A the wrong way round, B all' $k 'rectangle 1 1 0 -10000 10000' "$square"
-    measure 'A tiny, B tiny and far' $k 'rectangle 100 1 2 1 2' 'rectangle 100 9998 9999 -9999 -9998'
-done
+calls() {
+    echo "First point (hand) and the plain question: jobs, target, within it, over the limit of $call_limit s, the worst of the others"
+    local family target
+    for family in disks:0.020 tilted:0.020 skewed:1.500 zero:0.100; do
+        target=${family#*:}
+        family=${family%:*}
+        rm -f "$scratch/first" "$scratch/plain"
+        local list=("$jobs/$family"-*.job) chosen=() i step=1
+        [ "$family" = skewed ] && step=$every
+        for ((i = 0; i < ${#list[@]}; i += step)); do chosen+=("${list[i]}"); done
+        both_calls "${chosen[@]}"
+        tell "$family" hand "$target" "$scratch/first"
+        tell "$family" plain "$target" "$scratch/plain"
+    done
+}
+
+memory() {
+    local k
+    echo 'Memory of list, peak resident size in KB:'
+    for k in 08 10 12; do
+        /usr/bin/time -f %M "$bin/list" <"$jobs/disks-k$k.job" 2>"$scratch/said" >/dev/null
+        echo "disks-k$k $(cat "$scratch/said")"
+    done
+}
+
+# tests INPUT PROGRAM: how often the program asks whether a point solves the
+# job, and its instructions.
+tests() {
+    valgrind --tool=callgrind --callgrind-out-file="$scratch/calls" "$2" <"$1" >/dev/null 2>&1
+    awk '
+        /^c?fn=/ { match($0, /\([0-9]+\)/); id = substr($0, RSTART, RLENGTH); if (NF > 1) name[id] = $2 }
+        /^cfn=/ { to = id }
+        /^calls=/ { split($1, n, "="); calls[to] += n[2] }
+        /^totals:/ { total = $2 }
+        END {
+            for (id in calls) if (name[id] ~ /Job::solves_accepted$/) sum += calls[id]
+            print sum + 0, total
+        }' "$scratch/calls"
+}
+
+candidates() {
+    command -v valgrind >/dev/null || { echo 'Candidates: no valgrind here'; return; }
+    local k name said
+    echo 'Candidates (points that are tested), and instructions of the whole run:'
+    for k in 08 10; do
+        "$peer" count <"$jobs/disks-k$k.job" >/dev/null 2>"$scratch/said"
+        said=$(awk '{ print $2 }' "$scratch/said")
+        echo "disks-k$k: ours $(tests "$jobs/disks-k$k.job" "$bin/count"), the peer's $said"
+    done
+    # Minus the identity has the boxes of the identity, and as a caller's
+    # operator it is not replaced by a proposal.
+    for name in "$jobs"/reduction-*.reads; do
+        { cat "$name"; echo plain; } >"$scratch/proposal"
+        { cat "$name"; echo 'read 04000000000000ffff0000ffff00000000'; echo plain; } >"$scratch/identity"
+        echo "$(basename "$name" .reads): identity $(tests "$scratch/identity" "$bin/console"), proposal $(tests "$scratch/proposal" "$bin/console")"
+    done
+}
+
+whole_lists
+echo
+calls
+echo
+memory
+echo
+candidates

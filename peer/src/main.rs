@@ -1,5 +1,6 @@
 //! A second, independent list program, with a few modes for comparing.
 
+mod bench;
 mod bounds;
 mod bytes;
 mod generate;
@@ -38,6 +39,7 @@ const USAGE: &str = "usage: peer [list | count | first] < job
        peer sign P Q
        peer gen SEED COUNT DIR
        peer pack < records > job
+       peer jobs DIR
        peer bytes PROGRAM FROM TO STEP";
 
 type Outcome = Result<(), Box<dyn Error>>;
@@ -71,6 +73,7 @@ fn run(arguments: &[String]) -> Outcome {
             generate(number(seed)?, number(count)?, Path::new(directory))
         }
         ("pack", []) => pack(),
+        ("jobs", [directory]) => write_jobs(Path::new(directory)),
         ("bytes", [program, from, to, step]) => {
             check_bytes(program, number(from)?, number(to)?, number(step)?)
         }
@@ -191,6 +194,22 @@ fn pack() -> Outcome {
     let mut text = String::new();
     io::stdin().lock().read_to_string(&mut text)?;
     Ok(io::stdout().write_all(&pack::pack(&text)?)?)
+}
+
+/// Writes the jobs of the benchmark, each also as readings for a console.
+fn write_jobs(directory: &Path) -> Outcome {
+    fs::create_dir_all(directory)?;
+    for (name, records) in bench::jobs() {
+        let reads: String =
+            records.iter().map(|record| format!("read {}\n", hex(record))).collect();
+        fs::write(directory.join(format!("{name}.job")), records.concat())?;
+        fs::write(directory.join(format!("{name}.reads")), reads)?;
+    }
+    Ok(())
+}
+
+fn hex(bytes: &[u8]) -> String {
+    bytes.iter().map(|byte| format!("{byte:02x}")).collect()
 }
 
 /// Runs a list program on bytes of each length.

@@ -1,0 +1,167 @@
+//! The jobs of the benchmark, by families.
+
+use crate::job::{encode, ELLIPSE, RECTANGLE, SCALE};
+
+/// A region's kind and values.
+type Region = (u8, Vec<i64>);
+
+/// A name that begins with the job's family, and its records.
+pub type Named = (String, [Vec<u8>; 3]);
+
+const DISK: [i64; 3] = [1, 0, 1];
+
+/// P, Q and R with PR − Q² from 1 to 4, and with P and R from 90 on and the
+/// least PR − Q²; each is used with the one after it.
+const FORMS: [[i64; 3]; 8] = [
+    [65, 73, 82],
+    [73, 85, 99],
+    [97, 80, 66],
+    [66, 74, 83],
+    [99, 94, 90],
+    [91, 95, 100],
+    [98, 94, 91],
+    [92, 95, 99],
+];
+
+pub fn jobs() -> Vec<Named> {
+    [disks(), tilted(), whole(), skewed(), zero(), reduction()].concat()
+}
+
+fn job(name: String, k: i64, a: &Region, b: &Region) -> Named {
+    (name, [encode(SCALE, &[k]), encode(a.0, &a.1), encode(b.0, &b.1)])
+}
+
+fn rectangle(n: i64, [xl, xh]: [i64; 2], [yl, yh]: [i64; 2]) -> Region {
+    (RECTANGLE, vec![n, xl, xh, yl, yh])
+}
+
+fn ellipse(n: i64, [cx, cy]: [i64; 2], [p, q, r]: [i64; 3], s: i64) -> Region {
+    (ELLIPSE, vec![n, cx, cy, p, q, r, s])
+}
+
+fn disk() -> Region {
+    ellipse(1, [0, 0], DISK, 1)
+}
+
+fn disks() -> Vec<Named> {
+    [8, 10, 12].map(|k| job(format!("disks-k{k:02}"), k, &disk(), &disk())).to_vec()
+}
+
+/// A of semi-axes 0.107 and 0.00093, tilted, and B the unit disk.
+fn tilted() -> Vec<Named> {
+    let centred = ellipse(100, [0, 0], [50, 57, 65], 1);
+    let off = ellipse(100, [55, 31], [50, -57, 65], 1);
+    (8..=12)
+        .flat_map(|k| {
+            [
+                job(format!("tilted-centred-k{k:02}"), k, &centred, &disk()),
+                job(format!("tilted-off-k{k:02}"), k, &off, &disk()),
+            ]
+        })
+        .collect()
+}
+
+/// Skewed ellipses on both sides whose lists are not too long.
+fn whole() -> Vec<Named> {
+    let sizes =
+        [(0, 1_000_000), (4, 1_000_000), (4, 10_000), (8, 10_000), (8, 100), (12, 100), (12, 1)];
+    let mut jobs: Vec<Named> = sizes
+        .iter()
+        .map(|&(k, s)| {
+            let [a, b] = crossed(100, [[0, 0]; 2], 0, s);
+            job(format!("whole-n100-S{s}-k{k:02}"), k, &a, &b)
+        })
+        .collect();
+    for k in [0, 4] {
+        let a = ellipse(7, [123, -456], [83, -91, 100], 1_000);
+        let b = ellipse(7, [-30, 40], [82, 73, 65], 1_000);
+        jobs.push(job(format!("whole-n7-S1000-off-k{k:02}"), k, &a, &b));
+    }
+    jobs
+}
+
+fn crossed(n: i64, [a, b]: [[i64; 2]; 2], form: usize, s: i64) -> [Region; 2] {
+    let [p, q, r] = FORMS[(form + 1) % FORMS.len()];
+    [ellipse(n, a, FORMS[form], s), ellipse(n, b, [p, -q, r], s)]
+}
+
+fn alike(n: i64, [a, b]: [[i64; 2]; 2], form: usize, s: i64) -> [Region; 2] {
+    [ellipse(n, a, FORMS[form], s), ellipse(n, b, FORMS[(form + 1) % FORMS.len()], s)]
+}
+
+fn skewed() -> Vec<Named> {
+    let mut jobs = Vec::new();
+    for (form, [p, q, r]) in FORMS.iter().enumerate() {
+        for s in [1, 100, 10_000, 100_000, 1_000_000] {
+            for n in [1, 10, 100] {
+                for (place, centres) in [("centred", [[0, 0]; 2]), ("off", [[37, -11], [5, 91]])] {
+                    let alone = ellipse(n, centres[0], FORMS[form], s);
+                    let sides = [
+                        ("A", [alone.clone(), disk()]),
+                        ("B", [disk(), alone]),
+                        ("crossed", crossed(n, centres, form, s)),
+                        ("alike", alike(n, centres, form, s)),
+                    ];
+                    for (side, [a, b]) in sides {
+                        for k in [0, 3, 4, 6, 8, 10, 12] {
+                            let name =
+                                format!("skewed-{side}-{p}_{q}_{r}-n{n}-S{s}-{place}-k{k:02}");
+                            jobs.push(job(name, k, &a, &b));
+                        }
+                    }
+                }
+            }
+        }
+    }
+    jobs
+}
+
+/// Regions of zero width, of one point, and the wrong way round, against all.
+fn zero() -> Vec<Named> {
+    let far = [-10_000, 10_000];
+    let all = rectangle(1, far, far);
+    let thin = [
+        ("x0", rectangle(1, [0, 0], far)),
+        ("x1", rectangle(1, [1, 1], far)),
+        ("x_third", rectangle(3, [1, 1], far)),
+        ("x1_short", rectangle(1, [1, 1], [-10, 10])),
+        ("y0", rectangle(1, far, [0, 0])),
+        ("y1", rectangle(1, far, [1, 1])),
+        ("y_third", rectangle(3, far, [1, 1])),
+        ("y1_short", rectangle(1, [-10, 10], [1, 1])),
+        ("point0", rectangle(1, [0, 0], [0, 0])),
+        ("point12", rectangle(1, [1, 1], [2, 2])),
+        ("point_third", rectangle(3, [1, 1], [1, 1])),
+        ("centre0", ellipse(1, [0, 0], DISK, 0)),
+        ("centre12", ellipse(1, [1, 2], [65, 73, 82], 0)),
+        ("centre_third", ellipse(3, [1, 1], DISK, 0)),
+        ("x_reversed", rectangle(1, [1, 0], far)),
+        ("y_reversed", rectangle(1, far, [1, 0])),
+        ("both_reversed", rectangle(1, [1, 0], [1, 0])),
+    ];
+    let mut jobs = Vec::new();
+    for (name, region) in &thin {
+        for k in [0, 6, 12] {
+            jobs.push(job(format!("zero-A-{name}-k{k:02}"), k, region, &all));
+            jobs.push(job(format!("zero-B-{name}-k{k:02}"), k, &all, region));
+        }
+    }
+    jobs
+}
+
+/// Jobs for the plain question with a proposal and without, off centre so that
+/// the first place looked at is no solution.
+fn reduction() -> Vec<Named> {
+    let jobs = [
+        ("yes", 6, 100, 1_000, [[37, 11], [5, 91]], [[86, 77, 69], [78, 82, 87]]),
+        ("crossed", 6, 100, 1_000, [[37, -11], [5, 91]], [[65, 73, 82], [66, -74, 83]]),
+        ("none", 8, 100, 100, [[37, 11], [5, 91]], [[85, -92, 100], [74, 86, 100]]),
+        ("none", 4, 10, 40, [[13, 4], [5, -9]], [[97, 95, 94], [83, 90, 98]]),
+    ];
+    jobs.iter()
+        .map(|&(name, k, n, s, centres, forms)| {
+            let [a, b] = [0, 1].map(|i| ellipse(n, centres[i], forms[i], s));
+            job(format!("reduction-{name}-k{k:02}"), k, &a, &b)
+        })
+        .collect()
+}
