@@ -65,7 +65,7 @@ fn print(out: &[u8], n: usize) {
 fn reply(s: Session, line: &[u8], out: &mut [u8]) -> Reply {
     let first = text::spaces_from(line, 0);
     let end = text::word_end(line, first);
-    let c = words::command_at(line, first, end);
+    let c = words::command_of(&line[first..end]);
     if let Command::Read = c {
         return steps::read(s, line, end, out);
     }

@@ -1,4 +1,6 @@
 // The words of a line.
+ghost use mathlib.Core.Path.{_≡_};
+ghost use Rattle.console.specs.Words.{isName, apartOf, commandOf};
 use integers::Narrow;
 use integers::Short;
 use operator::Operator;
@@ -45,71 +47,61 @@ pub enum Slice {
     TooLong,
 }
 
-// The command from at to end.
-pub fn command_at(line: &[u8], at: usize, end: usize) -> Command {
-    if is_name(line, at, end, b"read") {
+// The command that a word names.
+pub fn command_of(word: &[u8]) -> Command
+    ensures { λ r. ⌜ r ≡ commandOf (now (word .entry)) ⌝ }
+{
+    if is_name(word, b"read") {
         return Command::Read;
     }
-    if is_name(line, at, end, b"hand") {
+    if is_name(word, b"hand") {
         return Command::Hand;
     }
-    if is_name(line, at, end, b"rewind") {
+    if is_name(word, b"rewind") {
         return Command::Rewind;
     }
-    if is_name(line, at, end, b"clear") {
+    if is_name(word, b"clear") {
         return Command::Clear;
     }
-    if is_name(line, at, end, b"plain") {
+    if is_name(word, b"plain") {
         return Command::Plain;
     }
-    if is_name(line, at, end, b"image") {
+    if is_name(word, b"image") {
         return Command::Image;
     }
-    apart(line, at, end)
+    apart_of(word)
 }
 
 // Those apart from the session.
-fn apart(line: &[u8], at: usize, end: usize) -> Command {
-    if is_name(line, at, end, b"sign") {
+fn apart_of(word: &[u8]) -> Command
+    ensures { λ r. ⌜ r ≡ apartOf (now (word .entry)) ⌝ }
+{
+    if is_name(word, b"sign") {
         return Command::Sign;
     }
-    if is_name(line, at, end, b"line") {
+    if is_name(word, b"line") {
         return Command::Line;
     }
-    if is_name(line, at, end, b"operator") {
+    if is_name(word, b"operator") {
         return Command::Operator;
     }
-    if is_name(line, at, end, b"apply") {
+    if is_name(word, b"apply") {
         return Command::Apply;
     }
-    if is_name(line, at, end, b"inverse") {
+    if is_name(word, b"inverse") {
         return Command::Inverse;
     }
-    if is_name(line, at, end, b"exponent") {
+    if is_name(word, b"exponent") {
         return Command::Exponent;
     }
     Command::Unknown
 }
 
-// Whether the bytes of line from at to end are those of name.
-pub fn is_name(line: &[u8], at: usize, end: usize, name: &[u8]) -> bool {
-    if end < at {
-        return false;
-    }
-    if line.len() < end {
-        return false;
-    }
-    if end - at != name.len() {
-        return false;
-    }
-    let mut i = 0;
-    while i < name.len() {
-        if line[at + i] != name[i] {
-            return false;
-        }
-        i += 1;
-    }
-    true
+// Whether a word is a name.
+fn is_name(word: &[u8], name: &[u8]) -> bool
+    ensures { λ r. ⌜ r ≡ isName (now (word .entry)) (now (name .entry)) ⌝ }
+{
+    check::same(word, name)
 }
 
 // The numbers from a place on.

@@ -1,0 +1,2 @@
+-- What the contracts of `console` cite: the words of a line.
+pub mod Words
