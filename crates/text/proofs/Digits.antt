@@ -43,6 +43,9 @@ decimal-more (suc n) h =
     within-more (suc n) (suc n) h
     ∙ ap (λ (ds : List ℕ). ds ++ ((48 + suc n % 10) ∷ [])) (within-enough n (suc n / 10) (suc n / 10) (omega arith) (omega arith))
 
+pub decimal-two : (n : ℕ) → 10 ≤ n → n < 100 → decimal n ≡ (48 + n / 10) ∷ (48 + n % 10) ∷ []
+decimal-two n h k = decimal-more n h ∙ rw (decimal-one (n / 10) (omega arith))
+
 pub decimal-some : (n : ℕ) → 0 < length (decimal n)
 decimal-some n =
     elim (decLt n 10) [

@@ -1,5 +1,5 @@
 // Writing: bytes and decimal numbers at a place of a slice. What does not fit is not written, and the place stays.
-ghost use Prim.Native.Nat.{_+_, _≤_};
+ghost use Prim.Native.Nat.{_+_, _<_, _≤_};
 ghost use mathlib.Core.Path.{_≡_};
 ghost use mathlib.Core.List.{[], _∷_, _++_};
 ghost use lib.ListN.{length, take, drop};
@@ -10,9 +10,38 @@ ghost use Rattle.text.specs.Written.{written, after};
 pub fn put_unsigned(out: &mut [u8], at: usize, n: u64) -> usize
     ensures { λ r. ⌜ (now (out .exit) ≡ written (now (out .entry)) at (decimal n)) × (r ≡ after (now (out .entry)) at (decimal n)) ⌝ }
 {
+    if n < 10 {
+        return put_byte(out, at, 48 + n as u8);
+    }
+    if n < 100 {
+        return put_two(out, at, n as u8);
+    }
+    put_long(out, at, n)
+}
+
+// The same by way of a buffer, for a number of any length.
+fn put_long(out: &mut [u8], at: usize, n: u64) -> usize
+    ensures { λ r. ⌜ (now (out .exit) ≡ written (now (out .entry)) at (decimal n)) × (r ≡ after (now (out .entry)) at (decimal n)) ⌝ }
+{
     let mut digits = [0u8; 20];
     let k = io::decimal(n, &mut digits);
     put_bytes(out, at, &digits[..k])
+}
+
+// The same for a number of two digits.
+fn put_two(out: &mut [u8], at: usize, n: u8) -> usize
+    requires { ⌜ (10 ≤ n) × (n < 100) ⌝ }
+    ensures { λ r. ⌜ (now (out .exit) ≡ written (now (out .entry)) at (decimal n)) × (r ≡ after (now (out .entry)) at (decimal n)) ⌝ }
+{
+    if out.len() <= at {
+        return at;
+    }
+    if out.len() - at < 2 {
+        return at;
+    }
+    out[at] = 48 + n / 10;
+    out[at + 1] = 48 + n % 10;
+    at + 2
 }
 
 // The same of a signed number, '-' before the digits of a negative one.
