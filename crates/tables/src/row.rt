@@ -1,6 +1,8 @@
 // Rows of whole numbers.
 ghost use Prim.Native.Nat.{_<_};
 ghost use lib.ListN.{length};
+use integers::Narrow;
+use ring::Point;
 use text::Number;
 
 // How many rows there were, and how many of them differ.
@@ -85,4 +87,26 @@ pub fn after(s: &[u8], at: usize, end: usize) -> usize
         }
     }
     s.len()
+}
+
+// Four numbers of a row as a point, where they fit.
+pub enum Four {
+    Point(Point),
+    TooWide,
+}
+
+pub fn point_of(a: i64, b: i64, c: i64, d: i64) -> Four {
+    let Narrow::Fits(a) = integers::to_i32(a) else {
+        return Four::TooWide;
+    };
+    let Narrow::Fits(b) = integers::to_i32(b) else {
+        return Four::TooWide;
+    };
+    let Narrow::Fits(c) = integers::to_i32(c) else {
+        return Four::TooWide;
+    };
+    let Narrow::Fits(d) = integers::to_i32(d) else {
+        return Four::TooWide;
+    };
+    Four::Point(Point { a, b, c, d })
 }
