@@ -1,5 +1,6 @@
 // Entries apart from the session.
-use crate::put;
+use crate::put::Line;
+use crate::put::Value;
 use crate::steps;
 use crate::words;
 use crate::words::Eight;
@@ -17,13 +18,12 @@ use ring::Point;
 use ring::Sign;
 
 // `sign P Q`.
-pub fn sign(n: Numbers, out: &mut [u8]) -> usize {
+pub fn sign(n: Numbers) -> Line {
     if n.count != 2 {
-        return put::bad(out);
+        return Line::Bad;
     }
-    let at = put::begin(out);
-    let at = put::signed(out, at, number(ring::sign_of(n.values[0], n.values[1])));
-    put::end(out, at)
+    let s = ring::sign_of(n.values[0], n.values[1]);
+    Line::Good(Value::Signed(number(s)))
 }
 
 fn number(s: Sign) -> i64 {
@@ -35,20 +35,20 @@ fn number(s: Sign) -> i64 {
 }
 
 // `line NA LO HI NB LO HI LENGTH`, with or without a last pair.
-pub fn line(n: Numbers, out: &mut [u8]) -> usize {
+pub fn line(n: Numbers, space: &mut [i32]) -> Line {
     if n.count == 7 {
-        return line_from(n, Place::Beginning, out);
+        return line_from(n, Place::Beginning, space);
     }
     if n.count != 9 {
-        return put::bad(out);
+        return Line::Bad;
     }
     let Narrow::Fits(a) = integers::to_i32(n.values[7]) else {
-        return put::bad(out);
+        return Line::Bad;
     };
     let Narrow::Fits(b) = integers::to_i32(n.values[8]) else {
-        return put::bad(out);
+        return Line::Bad;
     };
-    line_from(n, Place::After(a, b), out)
+    line_from(n, Place::After(a, b), space)
 }
 
 // Three numbers of 32 bits.
@@ -70,37 +70,29 @@ fn interval(n: i64, lo: i64, hi: i64) -> Ends {
     Ends::Interval(Interval { n, lo, hi })
 }
 
-fn line_from(n: Numbers, place: Place, out: &mut [u8]) -> usize {
+fn line_from(n: Numbers, place: Place, space: &mut [i32]) -> Line {
     let Ends::Interval(first) = interval(n.values[0], n.values[1], n.values[2]) else {
-        return put::bad(out);
+        return Line::Bad;
     };
     let Ends::Interval(second) = interval(n.values[3], n.values[4], n.values[5]) else {
-        return put::bad(out);
+        return Line::Bad;
     };
     let Slice::Length(k) = words::lent(n.values[6]) else {
-        return put::bad(out);
+        return Line::Bad;
     };
-    let mut space = steps::number_buffer();
-    line_into(first, second, place, &mut space, k, out)
+    line_into(first, second, place, space, k)
 }
 
-fn line_into(
-    first: Interval,
-    second: Interval,
-    place: Place,
-    space: &mut [i32],
-    k: usize,
-    out: &mut [u8],
-) -> usize {
+fn line_into(first: Interval, second: Interval, place: Place, space: &mut [i32], k: usize) -> Line {
     if space.len() < k {
-        return put::bad(out);
+        return Line::Bad;
     }
     let a = line::pairs(first, second, place, &mut space[..k]);
     match a {
         line::Answer::Handed(count, ended) => {
-            put::handed(out, count, ended, space, steps::twice(count))
+            Line::Good(Value::Handed(count, ended, steps::twice(count)))
         }
-        line::Answer::Refused => put::refused(out, Refusal::OutOfRange),
+        line::Answer::Refused => Line::Refused(Refusal::OutOfRange),
     }
 }
 
@@ -121,112 +113,88 @@ fn test(g: Operator) -> Tested {
 }
 
 // `operator E1 .. E8`.
-pub fn operator(n: Numbers, out: &mut [u8]) -> usize {
+pub fn operator(n: Numbers) -> Line {
     if n.count != 8 {
-        return put::bad(out);
+        return Line::Bad;
     }
     let values = n.values;
     let Eight::Operator(g) = words::operator_of(values) else {
-        return put::bad(out);
+        return Line::Bad;
     };
     let t = test(g);
     match t {
-        Tested::Good => put::ok(out),
-        Tested::Refused(f) => put::refused(out, f),
+        Tested::Good => Line::Good(Value::Nothing),
+        Tested::Refused(f) => Line::Refused(f),
     }
 }
 
 // `apply E1 .. E8 A B C D`.
-pub fn apply(n: Numbers, out: &mut [u8]) -> usize {
+pub fn apply(n: Numbers) -> Line {
     if n.count != 12 {
-        return put::bad(out);
+        return Line::Bad;
     }
     let values = n.values;
     let Eight::Operator(g) = words::operator_of(values) else {
-        return put::bad(out);
+        return Line::Bad;
     };
     let Four::Point(v) = words::point(n.values[8], n.values[9], n.values[10], n.values[11]) else {
-        return put::bad(out);
+        return Line::Bad;
     };
-    let t = test(g);
-    match t {
-        Tested::Good => put_image(g, v, out),
-        Tested::Refused(f) => put::refused(out, f),
-    }
+    image(g, v)
 }
 
-fn put_image(g: Operator, v: Point, out: &mut [u8]) -> usize {
-    let w = g.image(v);
-    let at = put::begin(out);
-    let at = put::four(out, at, w.a, w.b, w.c, w.d);
-    put::end(out, at)
+fn image(g: Operator, v: Point) -> Line {
+    let t = test(g);
+    match t {
+        Tested::Good => Line::Good(Value::Point(g.image(v))),
+        Tested::Refused(f) => Line::Refused(f),
+    }
 }
 
 // `inverse E1 .. E8`.
-pub fn inverse(n: Numbers, out: &mut [u8]) -> usize {
+pub fn inverse(n: Numbers) -> Line {
     if n.count != 8 {
-        return put::bad(out);
+        return Line::Bad;
     }
     let values = n.values;
     let Eight::Operator(g) = words::operator_of(values) else {
-        return put::bad(out);
+        return Line::Bad;
     };
-    let t = test(g);
-    match t {
-        Tested::Good => put_inverse(g, out),
-        Tested::Refused(f) => put::refused(out, f),
+    inverse_of(g)
+}
+
+fn inverse_of(g: Operator) -> Line {
+    if let Tested::Refused(f) = test(g) {
+        return Line::Refused(f);
     }
-}
-
-fn put_inverse(g: Operator, out: &mut [u8]) -> usize {
     let Inverse::Operator(h) = g.inverse() else {
-        return put::bad(out);
+        return Line::Bad;
     };
-    let at = put::begin(out);
-    let at = put_first(h, out, at);
-    let at = put_second(h, out, at);
-    put::end(out, at)
-}
-
-// G(1).
-fn put_first(h: Operator, out: &mut [u8], at: usize) -> usize {
-    put::four(out, at, wide(h.a), wide(h.b), wide(h.c), wide(h.d))
-}
-
-// G(i).
-fn put_second(h: Operator, out: &mut [u8], at: usize) -> usize {
-    put::four(out, at, wide(h.ai), wide(h.bi), wide(h.ci), wide(h.di))
-}
-
-fn wide(z: i16) -> i64 {
-    z as i64
+    Line::Good(Value::Operator(h))
 }
 
 // `exponent K A B C D`.
-pub fn exponent(n: Numbers, out: &mut [u8]) -> usize {
+pub fn exponent(n: Numbers) -> Line {
     if n.count != 5 {
-        return put::bad(out);
+        return Line::Bad;
     }
     let Four::Point(v) = words::point(n.values[1], n.values[2], n.values[3], n.values[4]) else {
-        return put::bad(out);
+        return Line::Bad;
     };
-    if !integers::is_nonneg(n.values[0]) {
-        return put::bad(out);
-    }
-    let k = integers::abs(n.values[0]);
-    if 255 < k {
-        return put::bad(out);
-    }
-    if 12 < k {
-        return put::refused(out, Refusal::OutOfRange);
-    }
-    put_exponent(v, k as u8, out)
+    exponent_at(n.values[0], v)
 }
 
-fn put_exponent(v: Point, k: u8, out: &mut [u8]) -> usize {
-    let e = v.exponent(k);
-    let at = put::begin(out);
-    let at = put::unsigned(out, at, e as u64);
-    let at = put::unsigned(out, at, ring::pulse_count(e));
-    put::end(out, at)
+fn exponent_at(k: i64, v: Point) -> Line {
+    if !integers::is_nonneg(k) {
+        return Line::Bad;
+    }
+    let k = integers::abs(k);
+    if 255 < k {
+        return Line::Bad;
+    }
+    if 12 < k {
+        return Line::Refused(Refusal::OutOfRange);
+    }
+    let e = v.exponent(k as u8);
+    Line::Good(Value::Pair(e as u64, ring::pulse_count(e)))
 }

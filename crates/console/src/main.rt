@@ -9,6 +9,7 @@ ghost use Prim.Native.Nat.{_≤_};
 ghost use lib.ListN.{length};
 use libc::STDIN_FILENO;
 use libc::STDOUT_FILENO;
+use put::Line;
 use session::Session;
 use steps::Reply;
 use words::Command;
@@ -49,48 +50,70 @@ fn answer(s: Session, line: &[u8]) -> Session {
     if line[0] == b'#' {
         return s;
     }
-    let mut out = io::large_buffer();
-    let r = reply(s, line, &mut out);
-    print(&out, r.length);
+    let mut numbers = steps::number_buffer();
+    let r = reply(s, line, &mut numbers);
+    let l = r.line;
+    print(l, &numbers);
     r.session
 }
 
-fn print(out: &[u8], n: usize) {
+fn print(l: Line, numbers: &[i32]) {
+    let mut out = io::large_buffer();
+    let n = put::put(&mut out, l, numbers);
+    write(&out, n);
+}
+
+fn write(out: &[u8], n: usize) {
     if n <= out.len() {
         io::write_all(STDOUT_FILENO, &out[..n]);
     }
 }
 
 // The answer to a line, by its first word.
-fn reply(s: Session, line: &[u8], out: &mut [u8]) -> Reply {
+fn reply(s: Session, line: &[u8], numbers: &mut [i32]) -> Reply {
     let first = text::spaces_from(line, 0);
     let end = text::word_end(line, first);
     let c = words::command_of(&line[first..end]);
     if let Command::Read = c {
-        return steps::read(s, line, end, out);
+        return steps::read(s, line, end);
     }
     let n = words::numbers_from(line, end);
     if !n.good {
-        return steps::same(s, put::bad(out));
+        return steps::same(s, Line::Bad);
     }
-    answered(s, c, n, out)
+    moved(s, c, n, numbers)
 }
 
-// The answer to a command with numbers after it.
-fn answered(s: Session, c: Command, n: Numbers, out: &mut [u8]) -> Reply {
+// The commands that move the session on; the others leave it.
+fn moved(s: Session, c: Command, n: Numbers, numbers: &mut [i32]) -> Reply {
+    if let Command::Hand = c {
+        return steps::hand(s, n, numbers);
+    }
+    if let Command::Rewind = c {
+        return steps::rewind(s, n);
+    }
+    if let Command::Clear = c {
+        return steps::clear(s, n);
+    }
+    steps::same(s, asked(s, c, n, numbers))
+}
+
+fn asked(s: Session, c: Command, n: Numbers, numbers: &mut [i32]) -> Line {
     match c {
-        Command::Hand => steps::hand(s, n, out),
-        Command::Rewind => steps::rewind(s, n, out),
-        Command::Clear => steps::clear(s, n, out),
-        Command::Plain => steps::same(s, steps::plain(s, n, out)),
-        Command::Image => steps::same(s, steps::image(s, n, out)),
-        Command::Sign => steps::same(s, apart::sign(n, out)),
-        Command::Line => steps::same(s, apart::line(n, out)),
-        Command::Operator => steps::same(s, apart::operator(n, out)),
-        Command::Apply => steps::same(s, apart::apply(n, out)),
-        Command::Inverse => steps::same(s, apart::inverse(n, out)),
-        Command::Exponent => steps::same(s, apart::exponent(n, out)),
-        Command::Read => steps::same(s, put::bad(out)),
-        Command::Unknown => steps::same(s, put::bad(out)),
+        Command::Plain => steps::plain(s, n),
+        Command::Image => steps::image(s, n),
+        Command::Line => apart::line(n, numbers),
+        _ => apart_from_session(c, n),
+    }
+}
+
+fn apart_from_session(c: Command, n: Numbers) -> Line {
+    match c {
+        Command::Sign => apart::sign(n),
+        Command::Operator => apart::operator(n),
+        Command::Apply => apart::apply(n),
+        Command::Inverse => apart::inverse(n),
+        Command::Exponent => apart::exponent(n),
+        _ => Line::Bad,
     }
 }

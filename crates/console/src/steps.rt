@@ -1,34 +1,64 @@
 // Calls on the session.
 ghost use mathlib.Core.Path.{_≡_};
 ghost use lib.ListN.{length};
-use crate::put;
+use crate::put::Line;
+use crate::put::Value;
 use crate::words;
 use crate::words::Four;
 use crate::words::Numbers;
 use crate::words::Slice;
 use session::Answer;
+use session::Outcome;
 use session::Session;
 use text::Hex;
 
-// The session that a line leaves, and the length of its answer.
+// The session that a line leaves, and its answer.
 pub struct Reply {
     pub session: Session,
-    pub length: usize,
+    pub line: Line,
 }
 
 // A session that stays.
-pub fn same(s: Session, length: usize) -> Reply {
-    Reply { session: s, length }
+pub fn same(s: Session, l: Line) -> Reply {
+    Reply {
+        session: s,
+        line: l,
+    }
+}
+
+fn replied(o: Outcome) -> Reply {
+    let a = o.answer;
+    let left = o.session;
+    Reply {
+        session: left,
+        line: answered(a),
+    }
+}
+
+fn answered(a: Answer) -> Line {
+    match a {
+        Answer::Taken(n) => Line::Good(Value::Unsigned(n as u64)),
+        Answer::Says(yes) => Line::Good(Value::Says(yes)),
+        Answer::Refused(f) => Line::Refused(f),
+        Answer::Done => Line::Good(Value::Nothing),
+        Answer::Handed(count, ended) => {
+            Line::Good(Value::Handed(count, ended, twice(twice(count))))
+        }
+    }
+}
+
+pub fn twice(n: usize) -> usize {
+    std::num::wrapping_add_usize(n, n)
 }
 
 // `read HEX`; with no word after it a reading of no bytes.
-pub fn read(s: Session, line: &[u8], from: usize, out: &mut [u8]) -> Reply {
+pub fn read(s: Session, line: &[u8], from: usize) -> Reply {
     let mut bytes = io::large_buffer();
     let first = text::spaces_from(line, from);
     let h = pairs(line, first, &mut bytes);
     match h {
-        Hex::Bytes(n) => read_bytes(s, &bytes, n, out),
-        Hex::Bad => same(s, put::bad(out)),
+        Hex::Bytes(n) => read_bytes(s, &bytes, n),
+        Hex::Bad => same(s, Line::Bad),
     }
 }
 
@@ -45,127 +75,68 @@ fn pairs(line: &[u8], first: usize, bytes: &mut [u8]) -> Hex {
     text::unhex(&line[first..end], bytes)
 }
 
-fn read_bytes(s: Session, bytes: &[u8], n: usize, out: &mut [u8]) -> Reply {
+fn read_bytes(s: Session, bytes: &[u8], n: usize) -> Reply {
     if bytes.len() < n {
-        return same(s, put::bad(out));
+        return same(s, Line::Bad);
     }
-    let o = session::read(s, &bytes[..n]);
-    let a = o.answer;
-    let left = o.session;
-    let length = answered(a, out);
-    Reply {
-        session: left,
-        length,
-    }
+    replied(session::read(s, &bytes[..n]))
 }
 
-// `hand LENGTH`.
-pub fn hand(s: Session, n: Numbers, out: &mut [u8]) -> Reply {
-    if n.count != 1 {
-        return same(s, put::bad(out));
-    }
-    let mut space = number_buffer();
-    let l = words::lent(n.values[0]);
-    match l {
-        Slice::Length(k) => hand_out(s, &mut space, k, out),
-        Slice::TooLong => same(s, put::bad(out)),
-    }
-}
-
+// The numbers that a line may lend.
 pub fn number_buffer() -> [i32; 4096]
     ensures { λ r. ⌜ 4096 ≡ length r ⌝ }
 {
     [0; 4096]
 }
 
-fn hand_out(s: Session, space: &mut [i32], k: usize, out: &mut [u8]) -> Reply {
+// `hand LENGTH`.
+pub fn hand(s: Session, n: Numbers, space: &mut [i32]) -> Reply {
+    if n.count != 1 {
+        return same(s, Line::Bad);
+    }
+    let l = words::lent(n.values[0]);
+    match l {
+        Slice::Length(k) => hand_out(s, space, k),
+        Slice::TooLong => same(s, Line::Bad),
+    }
+}
+
+fn hand_out(s: Session, space: &mut [i32], k: usize) -> Reply {
     if space.len() < k {
-        return same(s, put::bad(out));
+        return same(s, Line::Bad);
     }
-    let o = session::hand_out(s, &mut space[..k]);
-    let left = o.session;
-    let a = o.answer;
-    match a {
-        Answer::Handed(count, ended) => {
-            let length = put::handed(out, count, ended, space, twice(twice(count)));
-            Reply {
-                session: left,
-                length,
-            }
-        }
-        Answer::Refused(f) => same(left, put::refused(out, f)),
-        Answer::Taken(_) => same(left, put::bad(out)),
-        Answer::Done => same(left, put::bad(out)),
-        Answer::Says(_) => same(left, put::bad(out)),
-    }
+    replied(session::hand_out(s, &mut space[..k]))
 }
 
-pub fn twice(n: usize) -> usize {
-    std::num::wrapping_add_usize(n, n)
-}
-
-pub fn rewind(s: Session, n: Numbers, out: &mut [u8]) -> Reply {
+pub fn rewind(s: Session, n: Numbers) -> Reply {
     if n.count != 0 {
-        return same(s, put::bad(out));
+        return same(s, Line::Bad);
     }
-    let o = session::rewind(s);
-    let a = o.answer;
-    let left = o.session;
-    let length = answered(a, out);
-    Reply {
-        session: left,
-        length,
-    }
+    replied(session::rewind(s))
 }
 
-pub fn clear(s: Session, n: Numbers, out: &mut [u8]) -> Reply {
+pub fn clear(s: Session, n: Numbers) -> Reply {
     if n.count != 0 {
-        return same(s, put::bad(out));
+        return same(s, Line::Bad);
     }
-    let o = session::clear(s);
-    let a = o.answer;
-    let left = o.session;
-    let length = answered(a, out);
-    Reply {
-        session: left,
-        length,
-    }
+    replied(session::clear(s))
 }
 
-pub fn plain(s: Session, n: Numbers, out: &mut [u8]) -> usize {
+pub fn plain(s: Session, n: Numbers) -> Line {
     if n.count != 0 {
-        return put::bad(out);
+        return Line::Bad;
     }
-    answered(session::has_solution(s), out)
+    answered(session::has_solution(s))
 }
 
 // `image A B C D`.
-pub fn image(s: Session, n: Numbers, out: &mut [u8]) -> usize {
+pub fn image(s: Session, n: Numbers) -> Line {
     if n.count != 4 {
-        return put::bad(out);
+        return Line::Bad;
     }
     let v = words::point(n.values[0], n.values[1], n.values[2], n.values[3]);
     match v {
-        Four::Point(w) => answered(session::has_image(s, w), out),
-        Four::TooWide => put::bad(out),
-    }
-}
-
-// An answer without numbers handed out.
-fn answered(a: Answer, out: &mut [u8]) -> usize {
-    match a {
-        Answer::Taken(n) => {
-            let at = put::begin(out);
-            let at = put::unsigned(out, at, n as u64);
-            put::end(out, at)
-        }
-        Answer::Says(yes) => {
-            let at = put::begin(out);
-            let at = put::yes_or_no(out, at, yes);
-            put::end(out, at)
-        }
-        Answer::Refused(f) => put::refused(out, f),
-        Answer::Done => put::ok(out),
-        Answer::Handed(_, _) => put::bad(out),
+        Four::Point(w) => answered(session::has_image(s, w)),
+        Four::TooWide => Line::Bad,
     }
 }

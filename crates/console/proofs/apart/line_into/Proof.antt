@@ -5,12 +5,6 @@ use borrow.Author.Needs.{needs}
 use Rattle.console.proofs.apart.line_into.Statement.{statement}
 use Rattle.console.proofs.apart.line_into.Tie as tie
 
-bad-requires : tie.Need-bad-requires
-bad-requires c κs = search needs
-
-same-length : tie.Need-same-length
-same-length c = search needs
-
 returns : tie.Need-returns
 returns c = search needs
 
@@ -29,29 +23,17 @@ enum-known-a c = search needs
 twice-requires : tie.Need-twice-requires
 twice-requires c κs = search needs
 
-handed-requires : tie.Need-handed-requires
-handed-requires c κs = search needs
-
 enum-told : tie.Need-enum-told
 enum-told c = search needs
 
-refused-requires : tie.Need-refused-requires
-refused-requires c κs = search needs
-
-same-length-2 : tie.Need-same-length-2
-same-length-2 c = search needs
-
-same-length-3 : tie.Need-same-length-3
-same-length-3 c = search needs
+same-length : tie.Need-same-length
+same-length c = search needs
 
 returns-2 : tie.Need-returns-2
 returns-2 c = search needs
 
-same-length-4 : tie.Need-same-length-4
-same-length-4 c = search needs
-
-same-length-5 : tie.Need-same-length-5
-same-length-5 c = search needs
+same-length-2 : tie.Need-same-length-2
+same-length-2 c = search needs
 
 returns-3 : tie.Need-returns-3
 returns-3 c = search needs
@@ -60,20 +42,14 @@ pub line-into-spec : {M : Type 1} → statement M
 line-into-spec =
     tie.close
     (tie.spec
-    bad-requires
-    same-length
     returns
     slice-relend-prefix-pairs
     slice-aggregate-pairs
     pairs-requires
     enum-known-a
     twice-requires
-    handed-requires
     enum-told
-    refused-requires
-    same-length-2
-    same-length-3
+    same-length
     returns-2
-    same-length-4
-    same-length-5
+    same-length-2
     returns-3)

@@ -1,12 +1,12 @@
--- `wide` is safe. Assumes nothing.
+-- `short` is safe. Assumes nothing.
 use native.Mathlib.Nat.{lt-of-lt-of-le}
 use mir.Syntax.{w16}
 use mir.Val.{SFits}
 use mir.Facts.{toZ-ofZ}
 use lib.Dec.{lit≤}
 use borrow.Author.Needs.{needs}
-use Rattle.console.proofs.apart.wide.Statement.{statement}
-use Rattle.console.proofs.apart.wide.Tie as tie
+use Rattle.console.proofs.put.short.Statement.{statement}
+use Rattle.console.proofs.put.short.Tie as tie
 
 cast-result : tie.Need-cast-result
 cast-result c =
@@ -16,5 +16,5 @@ cast-result c =
 returns : tie.Need-returns
 returns c = search needs
 
-pub wide-spec : {M : Type 1} → statement M
-wide-spec = tie.close (tie.spec cast-result returns)
+pub short-spec : {M : Type 1} → statement M
+short-spec = tie.close (tie.spec cast-result returns)
