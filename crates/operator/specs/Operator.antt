@@ -6,6 +6,7 @@ use lib.IntN.{ℤ, pos, negsuc, negℤ, _+ℤ_, _-ℤ_, _*ℤ_}
 use lib.Signed.{leZ}
 use Rattle.integers.specs.Parity.{even, half}
 use Rattle.ring.specs.declared.Point.{Point}
+pub use Rattle.ranges.specs.Ranges.{both}
 use Rattle.operator.specs.declared.Operator.{Operator}
 use Rattle.operator.specs.declared.WidePoint.{WidePoint}
 use Rattle.operator.specs.declared.Check.{Check}
@@ -21,10 +22,6 @@ refusal NotSpecial = 7
 -- the identity: G(1) = 1 and G(i) = i
 abbrev pub identity : Operator
 identity = record { a = pos 0; b = pos 0; c = pos 0; d = pos 1; ai = pos 0; bi = pos 1; ci = pos 0; di = pos 0 }
-
-abbrev pub both : Bool → Bool → Bool
-both true b = b
-both false b = false
 
 abbrev pub either : Bool → Bool → Bool
 either true b = true

@@ -92,8 +92,8 @@ impl Operator {
         ensures { λ r. ⌜ r ≡ inRange self ⌝ }
     {
         conditions::both(
-            conditions::in_range(self.a, self.b, self.c, self.d),
-            conditions::in_range(self.ai, self.bi, self.ci, self.di),
+            ranges::entries(self.a, self.b, self.c, self.d),
+            ranges::entries(self.ai, self.bi, self.ci, self.di),
         )
     }
 

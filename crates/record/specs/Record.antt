@@ -6,7 +6,7 @@ use Prim.Native.Nat.{ℕ, _-_, _<_, _≤_}
 use native.Mathlib.Omega.{arith}
 use lib.Dec.{eqb, leb, ltb}
 use lib.ListN.{length, drop, getD, length-drop}
-use borrow.Author.Tests.{ne-eqb, le-leb, lt-leb}
+use borrow.Author.Tests.{ne-eqb}
 use Rattle.region.specs.declared.Rectangle.{Rectangle}
 use Rattle.region.specs.declared.Ellipse.{Ellipse}
 use Rattle.region.specs.declared.Region.{Region}
@@ -182,13 +182,13 @@ readingOf [] t = Refused NoKind
 readingOf (b ∷ body) t = kindReading (kindOf b) body t
 
 -- ---- what the code meets, step by step
-pub scale-in : (s : List ℕ) → getD s 0 0 ≤ 12 → scaleOf s ≡ Accepted (Rec.Scale (getD s 0 0)) 2
+pub scale-in : (s : List ℕ) → leb (getD s 0 0) Reg.topScale ≡ true → scaleOf s ≡ Accepted (Rec.Scale (getD s 0 0)) 2
 unfolding scaleOf
-scale-in s h = rw (one s 0, le-leb (getD s 0 0) 12 h) refl
+scale-in s h = rw (one s 0, h) refl
 
-pub scale-out : (s : List ℕ) → 12 < getD s 0 0 → scaleOf s ≡ Refused OutOfRange
+pub scale-out : (s : List ℕ) → leb (getD s 0 0) Reg.topScale ≡ false → scaleOf s ≡ Refused OutOfRange
 unfolding scaleOf
-scale-out s h = rw (one s 0, lt-leb (getD s 0 0) 12 h) refl
+scale-out s h = rw (one s 0, h) refl
 
 module _ (k : Kind) (s : List ℕ) where
   pub body-scale : k ≡ K.Scale → bodyOf k s ≡ scaleOf s

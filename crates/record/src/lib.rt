@@ -214,7 +214,7 @@ fn scale_at(s: &[u8]) -> Reading
     ensures { λ r. ⌜ r ≡ scaleOf (now (s .entry)) ⌝ }
 {
     let k = s[0];
-    if k <= 12 {
+    if ranges::scale(k) {
         Reading::Accepted(Record::Scale(k), 2)
     } else {
         Reading::Refused(Refusal::OutOfRange)

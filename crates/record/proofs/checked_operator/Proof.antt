@@ -1,6 +1,4 @@
-use mathlib.Core.Path.{_≡_, refl}
-use Rattle.operator.specs.Operator.{checkOf}
-use Rattle.operator.specs.declared.Check.the-variants.{Special, OutOfRange, OddParity, NotSpecial}
+use mathlib.Core.Path.{refl, sym, _∙_}
 use borrow.Author.Needs.{needs}
 use Rattle.record.proofs.checked_operator.Statement.{statement}
 use Rattle.record.proofs.checked_operator.Tie as tie
@@ -21,16 +19,16 @@ enum-told-4 : tie.Need-enum-told-4
 enum-told-4 c = search needs
 
 returns : tie.Need-returns
-returns c = let e : checkOf (c .before .before .before .args .g) ≡ Special = cc in rw e refl
+returns c = rw (sym (c .before .before .check .ensures) ∙ c .enum-told .given .1) refl
 
 returns-2 : tie.Need-returns-2
-returns-2 c = let e : checkOf (c .before .before .before .args .g) ≡ OutOfRange = cc in rw e refl
+returns-2 c = rw (sym (c .before .before .check .ensures) ∙ c .enum-told2 .given .1) refl
 
 returns-3 : tie.Need-returns-3
-returns-3 c = let e : checkOf (c .before .before .before .args .g) ≡ OddParity = cc in rw e refl
+returns-3 c = rw (sym (c .before .before .check .ensures) ∙ c .enum-told3 .given .1) refl
 
 returns-4 : tie.Need-returns-4
-returns-4 c = let e : checkOf (c .before .before .before .args .g) ≡ NotSpecial = cc in rw e refl
+returns-4 c = rw (sym (c .before .before .check .ensures) ∙ c .enum-told4 .given .1) refl
 
 pub checked-operator-spec : {M : Type 1} → statement M
 checked-operator-spec =

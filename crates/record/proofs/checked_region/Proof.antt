@@ -1,6 +1,4 @@
-use mathlib.Core.Path.{_≡_, refl}
-use Rattle.region.specs.Region.{checkOf}
-use Rattle.region.specs.declared.Check.the-variants.{Accepted, OutOfRange, NotPositive}
+use mathlib.Core.Path.{refl, sym, _∙_}
 use borrow.Author.Needs.{needs}
 use Rattle.record.proofs.checked_region.Statement.{statement}
 use Rattle.record.proofs.checked_region.Tie as tie
@@ -18,13 +16,13 @@ enum-told-3 : tie.Need-enum-told-3
 enum-told-3 c = search needs
 
 returns : tie.Need-returns
-returns c = let e : checkOf (c .before .before .before .args .r) ≡ Accepted = cc in rw e refl
+returns c = rw (sym (c .before .before .check .ensures) ∙ c .enum-told .given .1) refl
 
 returns-2 : tie.Need-returns-2
-returns-2 c = let e : checkOf (c .before .before .before .args .r) ≡ OutOfRange = cc in rw e refl
+returns-2 c = rw (sym (c .before .before .check .ensures) ∙ c .enum-told2 .given .1) refl
 
 returns-3 : tie.Need-returns-3
-returns-3 c = let e : checkOf (c .before .before .before .args .r) ≡ NotPositive = cc in rw e refl
+returns-3 c = rw (sym (c .before .before .check .ensures) ∙ c .enum-told3 .given .1) refl
 
 pub checked-region-spec : {M : Type 1} → statement M
 checked-region-spec =

@@ -4,11 +4,11 @@ use borrow.Author.Needs.{needs}
 use Rattle.operator.proofs.Operator.in_range.Statement.{statement}
 use Rattle.operator.proofs.Operator.in_range.Tie as tie
 
-in-range-requires : tie.Need-in-range-requires
-in-range-requires c κs = search needs
+entries-requires : tie.Need-entries-requires
+entries-requires c κs = search needs
 
-in-range-requires-2 : tie.Need-in-range-requires-2
-in-range-requires-2 c κs = search needs
+entries-requires-2 : tie.Need-entries-requires-2
+entries-requires-2 c κs = search needs
 
 both-requires : tie.Need-both-requires
 both-requires c κs = search needs
@@ -23,4 +23,4 @@ returns c =
     cc
 
 pub in-range-spec : {M : Type 1} → statement M
-in-range-spec = tie.close (tie.spec in-range-requires in-range-requires-2 both-requires returns)
+in-range-spec = tie.close (tie.spec entries-requires entries-requires-2 both-requires returns)
