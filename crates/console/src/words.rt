@@ -1,5 +1,6 @@
 // The words of a line.
 ghost use mathlib.Core.Path.{_≡_};
+ghost use Rattle.console.specs.Numbers.{listedOf, bad, numbersFrom, endsWord, lentOf};
 ghost use Rattle.console.specs.Words.{isName, apartOf, commandOf};
 use integers::Narrow;
 use integers::Short;
@@ -24,7 +25,7 @@ pub enum Command {
     Unknown,
 }
 
-// The numbers after the first word, no more than 15, and whether the words are numbers and no more.
+// The numbers after the first word, at most 15, where the words are good.
 pub struct Numbers {
     pub values: [i64; 16],
     pub count: usize,
@@ -104,38 +105,50 @@ fn is_name(word: &[u8], name: &[u8]) -> bool
     check::same(word, name)
 }
 
-// The numbers from a place on.
-pub fn numbers_from(line: &[u8], from: usize) -> Numbers {
+// The numbers from a place on, where there is nothing else.
+pub fn numbers_from(line: &[u8], from: usize) -> Numbers
+    ensures { λ r. ⌜ listedOf r ≡ numbersFrom (now (line .entry)) from ⌝ }
+{
     let mut values = [0i64; 16];
     let mut count = 0;
     let mut at = text::spaces_from(line, from);
-    let mut good = true;
-    while count < 15 {
-        if line.len() <= at {
-            break;
+    while at < line.len() {
+        if 15 <= count {
+            return no_numbers();
         }
         let n = text::number_at(line, at);
-        match n {
-            Number::Value(v, end) => {
-                values[count] = v;
-                good = good & ends_word(line, end);
-                at = text::spaces_from(line, end);
-            }
-            Number::Bad => {
-                good = false;
-            }
+        let Number::Value(v, end) = n else {
+            return no_numbers();
+        };
+        if !ends_word(line, end) {
+            return no_numbers();
         }
+        values[count] = v;
         count += 1;
+        at = text::spaces_from(line, end);
     }
-    good = good & (line.len() <= at);
     Numbers {
         values,
         count,
-        good,
+        good: true,
     }
 }
 
-fn ends_word(line: &[u8], at: usize) -> bool {
+// A line that is not read.
+fn no_numbers() -> Numbers
+    ensures { λ r. ⌜ listedOf r ≡ bad ⌝ }
+{
+    Numbers {
+        values: [0; 16],
+        count: 0,
+        good: false,
+    }
+}
+
+// Whether a word ends at a place.
+fn ends_word(line: &[u8], at: usize) -> bool
+    ensures { λ r. ⌜ r ≡ endsWord (now (line .entry)) at ⌝ }
+{
     if at < line.len() {
         return line[at] == b' ';
     }
@@ -200,7 +213,9 @@ pub fn operator_of(n: [i64; 16]) -> Eight {
     })
 }
 
-pub fn lent(n: i64) -> Slice {
+pub fn lent(n: i64) -> Slice
+    ensures { λ r. ⌜ r ≡ lentOf n ⌝ }
+{
     if !integers::is_nonneg(n) {
         return Slice::TooLong;
     }
