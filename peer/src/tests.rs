@@ -2,9 +2,11 @@
 
 use std::ops::ControlFlow;
 
+use crate::bench;
 use crate::generate::Generator;
 use crate::job::{self, Job, Region, Shape};
 use crate::member::{Membership, Point};
+use crate::pack;
 use crate::root2::{floor_root2, sign};
 use crate::walk::Walk;
 
@@ -115,4 +117,22 @@ fn loops_against_a_cube() {
         assert_eq!(solutions(&job), expected, "{name}: {job:?}");
         compared += 1;
     }
+}
+
+#[test]
+fn packed() {
+    let bytes = pack::pack("# unit disks\nscale 0\nellipse 1 0 0 1 0 1 1\nellipse 1 0 0 1 0 1 1\n");
+    let ellipse = [3, 1, 0, 0, 0, 0, 0, 0, 0, 0, 0, 1, 0, 0, 0, 1, 0, 1, 0, 0, 0];
+    assert_eq!(bytes.unwrap(), [&[1, 0], &ellipse[..], &ellipse[..]].concat());
+    assert!(pack::pack("scale 0 1").is_err());
+}
+
+#[test]
+fn bench_jobs_are_accepted() {
+    let jobs = bench::jobs();
+    assert!(jobs.iter().all(|(_, records)| job::read(&records.concat()).is_ok()));
+    let mut names: Vec<&String> = jobs.iter().map(|(name, _)| name).collect();
+    names.sort();
+    names.dedup();
+    assert_eq!(names.len(), jobs.len());
 }
