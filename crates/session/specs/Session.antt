@@ -105,6 +105,10 @@ reading-outcome (S.First k a) b = refl
 reading-outcome (S.Walking c) b = refl
 
 -- ---- a hand-out
+-- nothing is left where an answer is yes
+pub record EmptyIf (c : Course) (r : Bool) : Type 0 where
+  pub none : r ≡ true → leftAt (solvesAt (c .job)) (top span) (spotOf (c .spot)) ≡ []
+
 pub gave-gives : (c : Course) (spot : Spot) (old new : List ℤ) (count : ℕ) (e : Bool)
     → Gave numbersOf 4 (leftAt (solvesAt (c .job)) (top span) (spotOf (c .spot))) old (length old / 4) count new (spotOf spot) → e ≡ isEnded (spotOf spot)
     → Gives (given world (c .job) (c .operator) old (leftAt (solvesAt (c .job)) (top span) (spotOf (c .spot)))) old new (record { stage = S.Walking (record { job = c .job; spot = spot; operator = c .operator }) }) (A.Handed count e)

@@ -1,13 +1,12 @@
 // A session's hand-outs.
 ghost use mathlib.Core.Path.{_≡_};
 ghost use mathlib.Core.Bool.{true};
-ghost use mathlib.Core.List.{[]};
 ghost use Rattle.calls.specs.Session.{step, handOut, given};
 ghost use Rattle.ranks.specs.Rest.{leftAt};
 ghost use Rattle.ranks.specs.Rank.{top};
 ghost use Rattle.walk.specs.Walk.{span, solvesAt, spotOf};
 ghost use Rattle.session.specs.World.{world};
-ghost use Rattle.session.specs.Session.{courseOf, ended, Gives};
+ghost use Rattle.session.specs.Session.{courseOf, ended, EmptyIf, Gives};
 use crate::Answer;
 use crate::Course;
 use crate::Outcome;
@@ -42,7 +41,7 @@ fn after_end(c: Course) -> Outcome
 
 // Whether nothing is left at the start of a walk: for a job without a solution the question, in coordinates of its own choice, is quicker than a walk.
 fn is_empty(c: Course) -> bool
-    ensures { λ r. ⌜ (r ≡ true → leftAt (solvesAt (c .job)) (top span) (spotOf (c .spot)) ≡ []) ⌝ }
+    ensures { λ r. ⌜ EmptyIf c r ⌝ }
 {
     let p = c.spot;
     match p {

@@ -18,46 +18,46 @@ fits c =
     (row-fits (a .p) (a .q) (a .r) (a .s) (a .v) (f .p) (f .q) (c .pre .0) (c .pre .1) ha hb hc hd, sfits-widen tt (f .p), sfits-widen tt (f .q), sfits-widen tt (f .r), sfits-widen tt (f .s), sfits-widen tt ha, sfits-widen tt hb, sfits-widen tt hc, sfits-widen tt hd)
 
 cast-result : tie.Need-cast-result
-cast-result c = let h = fits c in search needs
+cast-result c = let h = fits c .1 in search needs
 
 cast-result-2 : tie.Need-cast-result-2
-cast-result-2 c = let h = fits (c .before .before) in search needs
+cast-result-2 c = let h = fits (c .before .before) .8 in search needs
 
 mul-result : tie.Need-mul-result
-mul-result c = let h = fits (c .before .before) in search needs
+mul-result c = let h = fits (c .before .before) .0 .pd in let x = fits (c .before .before) .1 in let y = fits (c .before .before) .8 in search needs
 
 cast-result-3 : tie.Need-cast-result-3
-cast-result-3 c = let h = fits (c .before .before) in search needs
+cast-result-3 c = let h = fits (c .before .before) .2 in search needs
 
 cast-result-4 : tie.Need-cast-result-4
-cast-result-4 c = let h = fits (c .before .before .before .before) in search needs
+cast-result-4 c = let h = fits (c .before .before .before .before) .6 in search needs
 
 mul-result-2 : tie.Need-mul-result-2
-mul-result-2 c = let h = fits (c .before .before .before .before) in search needs
+mul-result-2 c = let h = fits (c .before .before .before .before) .0 .qb in let x = fits (c .before .before .before .before) .2 in let y = fits (c .before .before .before .before) .6 in search needs
 
 add-result : tie.Need-add-result
 add-result c = let h = fits (c .before .before .before .before) in search needs
 
 cast-result-5 : tie.Need-cast-result-5
-cast-result-5 c = let h = fits (c .before .before .before .before) in search needs
+cast-result-5 c = let h = fits (c .before .before .before .before) .3 in search needs
 
 cast-result-6 : tie.Need-cast-result-6
-cast-result-6 c = let h = fits (c .before .before .before .before .before .before) in search needs
+cast-result-6 c = let h = fits (c .before .before .before .before .before .before) .7 in search needs
 
 mul-result-3 : tie.Need-mul-result-3
-mul-result-3 c = let h = fits (c .before .before .before .before .before .before) in search needs
+mul-result-3 c = let h = fits (c .before .before .before .before .before .before) .0 .rc in let x = fits (c .before .before .before .before .before .before) .3 in let y = fits (c .before .before .before .before .before .before) .7 in search needs
 
 add-result-2 : tie.Need-add-result-2
 add-result-2 c = let h = fits (c .before .before .before .before .before .before) in search needs
 
 cast-result-7 : tie.Need-cast-result-7
-cast-result-7 c = let h = fits (c .before .before .before .before .before .before) in search needs
+cast-result-7 c = let h = fits (c .before .before .before .before .before .before) .4 in search needs
 
 cast-result-8 : tie.Need-cast-result-8
-cast-result-8 c = let h = fits (c .before .before .before .before .before .before .before .before) in search needs
+cast-result-8 c = let h = fits (c .before .before .before .before .before .before .before .before) .5 in search needs
 
 mul-result-4 : tie.Need-mul-result-4
-mul-result-4 c = let h = fits (c .before .before .before .before .before .before .before .before) in search needs
+mul-result-4 c = let h = fits (c .before .before .before .before .before .before .before .before) .0 .sa in let x = fits (c .before .before .before .before .before .before .before .before) .4 in let y = fits (c .before .before .before .before .before .before .before .before) .5 in search needs
 
 add-result-3 : tie.Need-add-result-3
 add-result-3 c = let h = fits (c .before .before .before .before .before .before .before .before) in search needs

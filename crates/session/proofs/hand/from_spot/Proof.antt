@@ -26,7 +26,7 @@ same-length c = search needs
 returns : tie.Need-returns
 returns c =
     let s = c .before .before .before in
-    rw (c .at-end .ensures .0, c .at-end .ensures .1) (empty-gives (s .args .c) (s .args .out .now) (c .before .before .is-empty .ensures (c .before .if1 .taken)))
+    rw (c .at-end .ensures .0, c .at-end .ensures .1) (empty-gives (s .args .c) (s .args .out .now) (c .before .before .is-empty .ensures .none (c .before .if1 .taken)))
 
 returns-2 : tie.Need-returns-2
 returns-2 c = gave-gives (c .before .before .before .before .before .before .before .before .args .c) _ _ _ _ _ (c .before .before .hand-out .ensures) (c .is-ended .ensures)

@@ -8,10 +8,6 @@ use Rattle.walk.specs.Walk.{span, solvesAt, spotOf, full}
 use borrow.Author.Needs.{needs}
 use Rattle.session.proofs.hand.is_empty.Statement.{statement}
 use Rattle.session.proofs.hand.is_empty.Tie as tie
-use Rattle.session.proofs.hand.is_empty.Reads as reads
-use Rattle.session.proofs.hand.is_empty.Lts as lts
-use Rattle.question.proofs.has_solution.Reads as has-solution-reads
-use Rattle.session.proofs.place.is_least.Reads as is-least-reads
 
 not-is : (b : Bool) → not (not b) ≡ true → b ≡ true
 not-is true e = refl
@@ -32,20 +28,22 @@ has-solution-requires c κs = search needs
 
 returns : tie.Need-returns
 unfolding full
-returns c = λ e.
-    let k = c .before .before .before .before in
-    let j = k .before .before .args .c .job in
-    let nil : isNil (full j) ≡ true = not-is (isNil (full j)) (sym (ap not (c .has-solution .ensures)) ∙ e) in
-    ap (leftAt (solvesAt j) (top span)) (ap spotOf (k .p .given .1) ∙ ap at (c .before .before .is-least .ensures (c .before .if1 .taken))) ∙ nil-is (full j) nil
+returns c = record {
+  none = λ e.
+      let k = c .before .before .before .before in
+      let j = k .before .before .args .c .job in
+      let nil : isNil (full j) ≡ true = not-is (isNil (full j)) (sym (ap not (c .has-solution .ensures)) ∙ e) in
+      ap (leftAt (solvesAt j) (top span)) (ap spotOf (k .p .given .1) ∙ ap at (c .before .before .is-least .ensures (c .before .if1 .taken))) ∙ nil-is (full j) nil;
+}
 
 enum-told : tie.Need-enum-told
 enum-told c = search needs
 
 returns-2 : tie.Need-returns-2
-returns-2 c = λ e. absurd (false≢true e)
+returns-2 c = record { none = λ e. absurd (false≢true e) }
 
 returns-3 : tie.Need-returns-3
-returns-3 c = λ e. absurd (false≢true e)
+returns-3 c = record { none = λ e. absurd (false≢true e) }
 
 pub is-empty-spec : {M : Type 1} → statement M
 is-empty-spec =
