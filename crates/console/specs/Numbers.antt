@@ -8,10 +8,10 @@ use lib.IntN.{ℤ, natAbs}
 use lib.Signed.{nonNeg}
 use lib.ListN.{length, getD, take}
 use borrow.Author.Tests.{lt-ltb, le-ltb, le-leb, lt-leb}
-use Rattle.text.specs.Run.{spacesFrom}
-use Rattle.text.specs.Number.{numberAt}
-use Rattle.text.specs.declared.read.Number.{Number}
-use Rattle.text.specs.declared.read.Number.the-variants.{Value, Bad}
+use Rattle.scan.specs.Run.{spacesFrom}
+use Rattle.scan.specs.Number.{numberAt}
+use Rattle.scan.specs.declared.Number.{Number}
+use Rattle.scan.specs.declared.Number.the-variants.{Value, Bad}
 use Rattle.console.specs.declared.words.Numbers.{Numbers}
 use Rattle.console.specs.declared.words.Slice.{Slice}
 use Rattle.console.specs.declared.words.Slice.the-variants.{Length, TooLong}

@@ -37,7 +37,7 @@ fn answer_all(s: &[u8]) {
     let mut left = session::start();
     let mut at = 0;
     while at < s.len() {
-        let end = text::line_end(s, at);
+        let end = scan::line_end(s, at);
         left = answer(left, &s[at..end]);
         at = end + 1;
     }
@@ -71,8 +71,8 @@ fn write(out: &[u8], n: usize) {
 
 // The answer to a line, by its first word.
 fn reply(s: Session, line: &[u8], numbers: &mut [i32]) -> Reply {
-    let first = text::spaces_from(line, 0);
-    let end = text::word_end(line, first);
+    let first = scan::spaces_from(line, 0);
+    let end = scan::word_end(line, first);
     let c = words::command_of(&line[first..end]);
     if let Command::Read = c {
         return steps::read(s, line, end);

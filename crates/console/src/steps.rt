@@ -54,7 +54,7 @@ pub fn twice(n: usize) -> usize {
 // `read HEX`; with no word after it a reading of no bytes.
 pub fn read(s: Session, line: &[u8], from: usize) -> Reply {
     let mut bytes = io::large_buffer();
-    let first = text::spaces_from(line, from);
+    let first = scan::spaces_from(line, from);
     let h = pairs(line, first, &mut bytes);
     match h {
         Hex::Bytes(n) => read_bytes(s, &bytes, n),
@@ -67,8 +67,8 @@ fn pairs(line: &[u8], first: usize, bytes: &mut [u8]) -> Hex {
     if line.len() <= first {
         return Hex::Bytes(0);
     }
-    let end = text::word_end(line, first);
-    let rest = text::spaces_from(line, end);
+    let end = scan::word_end(line, first);
+    let rest = scan::spaces_from(line, end);
     if rest < line.len() {
         return Hex::Bad;
     }

@@ -6,7 +6,7 @@ use integers::Narrow;
 use integers::Short;
 use operator::Operator;
 use ring::Point;
-use text::Number;
+use scan::Number;
 
 // What the first word of a line says.
 pub enum Command {
@@ -111,12 +111,12 @@ pub fn numbers_from(line: &[u8], from: usize) -> Numbers
 {
     let mut values = [0i64; 16];
     let mut count = 0;
-    let mut at = text::spaces_from(line, from);
+    let mut at = scan::spaces_from(line, from);
     while at < line.len() {
         if 15 <= count {
             return no_numbers();
         }
-        let n = text::number_at(line, at);
+        let n = scan::number_at(line, at);
         let Number::Value(v, end) = n else {
             return no_numbers();
         };
@@ -125,7 +125,7 @@ pub fn numbers_from(line: &[u8], from: usize) -> Numbers
         }
         values[count] = v;
         count += 1;
-        at = text::spaces_from(line, end);
+        at = scan::spaces_from(line, end);
     }
     Numbers {
         values,

@@ -1,6 +1,4 @@
--- What the contracts of `listing` cite: what an input comes to, and the lines.
-pub mod Load
-pub mod Reading
+-- What the contracts of `listing` cite: the lines, and a hand-out with them.
 pub mod Lines
 pub mod Page
 pub mod More

@@ -1,9 +1,6 @@
-// What the list program reads and prints: document 01, "The list program".
-mod input;
+// What the list program prints: document 01, "The list program".
 mod page;
 
-pub use input::Input;
-pub use input::load;
 pub use page::Page;
 pub use page::next;
 pub use page::put_end;

@@ -1,11 +1,11 @@
-// What the list program writes for an input: document 01, "The list program"; and the same without the solutions' lines, for timing. What decides is in `listing`.
+// What the list program writes for an input: document 01, "The list program"; and the same without the solutions' lines, for timing. What decides is in `input` and `listing`.
 ghost use mathlib.Core.Path.{_≡_};
 ghost use mathlib.Core.Bool.{true};
 ghost use Prim.Native.Nat.{_<_};
 ghost use lib.ListN.{length};
 ghost use Rattle.session.specs.Session.{meaning};
 ghost use Rattle.listing.specs.Given.{leftOf};
-use listing::Input;
+use input::Input;
 use listing::Page;
 use record::Refusal;
 use session::Answer;
@@ -30,7 +30,7 @@ pub fn print_count(fd: i32, bytes: &[u8]) {
 }
 
 fn print_input(fd: i32, bytes: &[u8], lines: bool) {
-    let input = listing::load(bytes);
+    let input = input::load(bytes);
     match input {
         Input::TooLong => print(fd, b"too long\n"),
         Input::Refused(f, at) => print_refusal(fd, f, at),

@@ -13,7 +13,7 @@ fn main() {
 fn list_all(names: &[u8]) {
     let mut at = 0;
     while at < names.len() {
-        let end = text::line_end(names, at);
+        let end = scan::line_end(names, at);
         list_one(&names[at..end]);
         at = end + 1;
     }

@@ -3,7 +3,7 @@ ghost use Prim.Native.Nat.{_<_};
 ghost use lib.ListN.{length};
 use integers::Narrow;
 use ring::Point;
-use text::Number;
+use scan::Number;
 
 // How many rows there were, and how many of them differ.
 pub struct Tally {
@@ -42,7 +42,7 @@ impl Tally {
 
 // The numbers of the line at `at`, whatever stands between them.
 pub fn row_at(s: &[u8], at: usize) -> Row {
-    let end = text::line_end(s, at);
+    let end = scan::line_end(s, at);
     let mut numbers = [0i64; 64];
     let mut count = 0;
     let mut before = [0usize; 4];
@@ -50,7 +50,7 @@ pub fn row_at(s: &[u8], at: usize) -> Row {
     let mut i = at;
     while i < end {
         let mut next = i + 1;
-        if let Number::Value(value, after) = text::number_at(s, i) {
+        if let Number::Value(value, after) = scan::number_at(s, i) {
             if count < 64 {
                 numbers[count] = value;
                 count += 1;

@@ -1,5 +1,3 @@
-pub mod Runs
-pub mod Saturation
 pub mod Signs
 pub mod Writing
 pub mod Digits

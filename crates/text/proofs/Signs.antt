@@ -1,21 +1,13 @@
--- What a test of an integer's sign says; -1 - z turns the sign and keeps the range. Assumes nothing.
-use Prim.Native.Nat.{ℕ, zero, suc, _-_, _<_}
-use mathlib.Core.Path.{_≡_, refl, ap}
+-- What a test of an integer's sign says. Assumes nothing.
+use Prim.Native.Nat.{ℕ, _<_}
+use mathlib.Core.Path.{_≡_, refl}
 use mathlib.Core.Bool.{true, false}
 use mathlib.Core.List.{_∷_}
 use native.Mathlib.Omega.{arith}
 use borrow.Author.Tests.{ltb-true}
-use lib.IntN.{ℤ, pos, negsuc, negℤ, natAbs, _-ℤ_}
+use lib.IntN.{ℤ, pos, negsuc, natAbs}
 use lib.Signed.{ltZ}
 use Rattle.text.specs.Decimal.{decimal, signedDecimal}
-
-pub turn-pos : (n : ℕ) → negsuc 0 -ℤ pos n ≡ negsuc n
-turn-pos zero = refl
-turn-pos (suc n) = ap negsuc (omega arith)
-
-pub negℤ-pos : (n : ℕ) → 0 < n → negsuc (n - 1) ≡ negℤ (pos n)
-negℤ-pos zero h = absurd (omega arith)
-negℤ-pos (suc n) h = ap negsuc (omega arith)
 
 pub signedDecimal-neg : (z : ℤ) → ltZ z (pos 0) ≡ true → signedDecimal z ≡ 45 ∷ decimal (natAbs z)
 unfolding signedDecimal

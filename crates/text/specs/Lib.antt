@@ -1,6 +1,4 @@
--- What the contracts of `text` cite: runs of bytes, numbers read, numbers written.
-pub mod Run
-pub mod Number
+-- What the contracts of `text` cite: numbers written, hexadecimal pairs read.
 pub mod Decimal
 pub mod Written
 pub mod Wide

@@ -4,7 +4,7 @@ use mathlib.Core.Bool.{false}
 use native.Mathlib.Nat.{le-of-lt}
 use native.Mathlib.Omega.{arith}
 use lib.ListN.{length}
-use Rattle.text.specs.Run.{isByte, runEnd-within}
+use Rattle.scan.specs.Run.{isByte, runEnd-within}
 use borrow.Author.Needs.{needs}
 use Rattle.console.proofs.steps.pairs.Statement.{statement}
 use Rattle.console.proofs.steps.pairs.Tie as tie

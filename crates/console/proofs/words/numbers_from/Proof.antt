@@ -11,8 +11,8 @@ use mir.Syntax.{w64}
 use mir.Val.{SFits}
 use mir.Facts.{toZ-ofZ}
 use borrow.Author.Tests.{not-true, not-false}
-use Rattle.text.specs.Number.{numberAt}
-use Rattle.text.specs.declared.read.Number.the-variants.{Value}
+use Rattle.scan.specs.Number.{numberAt}
+use Rattle.scan.specs.declared.Number.the-variants.{Value}
 use Rattle.console.specs.Numbers.{numbers, bad, endsWord, numbersWith, numbersFrom, numbers-end, numbers-full, numbers-none, numbers-run-on, numbers-more}
 use borrow.Author.Needs.{needs}
 use Rattle.console.proofs.words.numbers_from.Statement.{statement}
