@@ -10,7 +10,8 @@ use lib.ListN.{length, take, drop, length-take, length-drop}
 use Rattle.ranks.specs.Rest.{Place, at, ended, isNil, placeOf, rest, leftAt, left-place}
 use Rattle.ranks.specs.Rank.{top}
 use Rattle.ranks.specs.Handed.{flat, put, take-put}
-use Rattle.walk.specs.Walk.{span, solvesAt, numbersOf}
+use Rattle.cuts.specs.Digits.{span}
+use Rattle.walk.specs.Walk.{solvesAt, numbersOf}
 use Rattle.calls.specs.Session.{handOut, refused, taken, handed, done, says, early, walking, step}
 use Rattle.calls.specs.Session as Model
 use Rattle.session.specs.World.{world}

@@ -11,7 +11,8 @@ use Rattle.text.specs.Decimal.{decimal, signedDecimal}
 use Rattle.ranks.specs.Rest.{at, ended, isNil, placeOf, rest}
 use Rattle.ranks.specs.Rank.{top}
 use Rattle.ranks.specs.Handed.{flat}
-use Rattle.walk.specs.Walk.{span, solvesAt, numbersOf}
+use Rattle.cuts.specs.Digits.{span}
+use Rattle.walk.specs.Walk.{solvesAt, numbersOf}
 use Rattle.calls.specs.Session.{early, walking}
 use Rattle.calls.specs.Session as Model
 use Rattle.session.specs.World.{world}

@@ -17,7 +17,8 @@ use Rattle.ranks.specs.Rank.{top}
 use Rattle.ranks.specs.Handed.{Gave}
 use Rattle.walk.specs.declared.Spot.{Spot}
 use Rattle.walk.specs.declared.Spot.the-variants as P
-use Rattle.walk.specs.Walk.{span, solvesAt, numbersOf, spotOf}
+use Rattle.cuts.specs.Digits.{span}
+use Rattle.walk.specs.Walk.{solvesAt, numbersOf, spotOf}
 use Rattle.walk.specs.Hand.{gave-none}
 use Rattle.calls.specs.Session.{Call, handOut, refused, taken, handed, done, says, early, walking, joined, remembered, given, step, reading, lent}
 use Rattle.calls.specs.Session as Model

@@ -23,7 +23,8 @@ use Rattle.record.specs.declared.Kind.the-variants as K
 use Rattle.record.specs.declared.Reading as Read
 use Rattle.record.specs.declared.Reading.the-variants as RV
 use Rattle.ranks.specs.Rank.{top}
-use Rattle.walk.specs.Walk.{span, solvesAt, numbersOf}
+use Rattle.cuts.specs.Digits.{span}
+use Rattle.walk.specs.Walk.{solvesAt, numbersOf}
 use Rattle.calls.specs.Session.{World, Reading, refuse, accept, Stage, part, whole, isOperator}
 
 -- what a job has before scale, A and B are all there

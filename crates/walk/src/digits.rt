@@ -1,8 +1,7 @@
 // Digits of a rank: a coordinate + 2^31.
 ghost use mathlib.Core.Path.{_≡_};
 ghost use Prim.Native.Nat.{_<_};
-ghost use Rattle.walk.specs.Walk.{span, coordinate, digit};
-ghost use Rattle.walk.specs.Search.{Digits, pointAt};
+ghost use Rattle.cuts.specs.Digits.{span, coordinate, digit, Digits, pointAt};
 use ring::Point;
 
 pub(crate) const HALF: i64 = 2147483648;

@@ -19,7 +19,8 @@ use Rattle.region.specs.Cut.{sgn}
 use Rattle.ranks.specs.Handed.{flat}
 use Rattle.ranks.specs.Digits.{pair}
 use Rattle.ranks.specs.Rank.{rank}
-use Rattle.walk.specs.Walk.{span, numbersOf, full as solutions}
+use Rattle.cuts.specs.Digits.{span}
+use Rattle.walk.specs.Walk.{numbersOf, full as solutions}
 use Rattle.line.specs.Line.{pairOf, inRange, full}
 use Rattle.line.specs.Worked as example
 use Rattle.operator.specs.declared.Operator.{Operator}

@@ -8,9 +8,9 @@ use borrow.Author.Needs.{needs}
 use Rattle.console.proofs.reply.Statement.{statement}
 use Rattle.console.proofs.reply.Tie as tie
 
-within : (c : tie.After-word-end) → (c .before .spaces-from .result ≤ c .word-end .result) × (c .word-end .result ≤ length (c .before .before .before .before .args .line .now))
+within : (c : tie.After-word-end) → (c .before .spaces-from .result ≤ c .word-end .result) × (c .word-end .result ≤ length (c .before .before .args .line .now))
 within c =
-    let l = c .before .before .before .before .args .line .now in
+    let l = c .before .before .args .line .now in
     let s = c .before .spaces-from .ensures in
     let f = runEnd-within (isByte 32 true) l 0 (omega arith) in
     let e = c .word-end .ensures in
@@ -38,58 +38,5 @@ command-of-requires c κs = search needs
 enum-told : tie.Need-enum-told
 enum-told c = search needs
 
-read-requires : tie.Need-read-requires
-read-requires c κs = search needs
-
-same-length : tie.Need-same-length
-same-length c = search needs
-
-returns : tie.Need-returns
-returns c = search needs
-
-numbers-from-requires : tie.Need-numbers-from-requires
-numbers-from-requires c κs = search needs
-
-bad-requires : tie.Need-bad-requires
-bad-requires c κs = search needs
-
-same-requires : tie.Need-same-requires
-same-requires c κs = search needs
-
-same-length-2 : tie.Need-same-length-2
-same-length-2 c = search needs
-
-returns-2 : tie.Need-returns-2
-returns-2 c = search needs
-
-answered-requires : tie.Need-answered-requires
-answered-requires c κs = search needs
-
-same-length-3 : tie.Need-same-length-3
-same-length-3 c = search needs
-
-returns-3 : tie.Need-returns-3
-returns-3 c = search needs
-
 pub reply-spec : {M : Type 1} → statement M
-reply-spec =
-    tie.close
-    (tie.spec
-    spaces-from-requires
-    word-end-requires
-    sub-command-of
-    part-command-of-start
-    part-command-of-end
-    command-of-requires
-    enum-told
-    read-requires
-    same-length
-    returns
-    numbers-from-requires
-    bad-requires
-    same-requires
-    same-length-2
-    returns-2
-    answered-requires
-    same-length-3
-    returns-3)
+reply-spec = tie.close (tie.spec spaces-from-requires word-end-requires sub-command-of part-command-of-start part-command-of-end command-of-requires enum-told)

@@ -4,7 +4,8 @@ use mathlib.Core.List.{List, [], _∷_}
 use Prim.Native.Nat.{ℕ}
 use Rattle.ranks.specs.Rest.{at, isNil, leftAt}
 use Rattle.ranks.specs.Rank.{top}
-use Rattle.walk.specs.Walk.{span, solvesAt, spotOf, full}
+use Rattle.cuts.specs.Digits.{span}
+use Rattle.walk.specs.Walk.{solvesAt, spotOf, full}
 use borrow.Author.Needs.{needs}
 use Rattle.session.proofs.hand.is_empty.Statement.{statement}
 use Rattle.session.proofs.hand.is_empty.Tie as tie

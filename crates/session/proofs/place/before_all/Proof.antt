@@ -1,7 +1,7 @@
 use mathlib.Core.Path.{ap}
 use Rattle.ranks.specs.Rest.{at}
 use Rattle.ranks.specs.Rank.{rank-zero}
-use Rattle.walk.specs.Walk.{span}
+use Rattle.cuts.specs.Digits.{span}
 use Rattle.session.proofs.place.before_all.Statement.{statement}
 use Rattle.session.proofs.place.before_all.Tie as tie
 

@@ -5,7 +5,7 @@ use mir.Syntax.{w32}
 use mir.Val.{SFits, toZ, ofZ}
 use mir.Facts.{toZ-ofZ}
 use Rattle.ranks.specs.Rank.{rank-zero}
-use Rattle.walk.specs.Walk.{span, digit}
+use Rattle.cuts.specs.Digits.{span, digit}
 use mathlib.Core.Path.{_≡_, sym, ap, _∙_, subst⁻¹}
 use mathlib.Core.Bool.{Bool, true, false, not, false≢true}
 use Rattle.session.proofs.place.is_least.Statement.{statement}
