@@ -8,9 +8,9 @@ use borrow.Author.Needs.{needs}
 use Rattle.console.proofs.reply.Statement.{statement}
 use Rattle.console.proofs.reply.Tie as tie
 
-within : (c : tie.After-word-end) → (c .before .spaces-from .result ≤ c .word-end .result) × (c .word-end .result ≤ length (c .before .before .args .line .now))
+within : (c : tie.After-word-end) → (c .before .spaces-from .result ≤ c .word-end .result) × (c .word-end .result ≤ length (c .before .before .before .args .line .now))
 within c =
-    let l = c .before .before .args .line .now in
+    let l = c .before .before .before .args .line .now in
     let s = c .before .spaces-from .ensures in
     let f = runEnd-within (isByte 32 true) l 0 (omega arith) in
     let e = c .word-end .ensures in
@@ -38,5 +38,46 @@ command-of-requires c κs = search needs
 enum-told : tie.Need-enum-told
 enum-told c = search needs
 
+read-requires : tie.Need-read-requires
+read-requires c κs = search needs
+
+numbers-from-requires : tie.Need-numbers-from-requires
+numbers-from-requires c κs = search needs
+
+same-requires : tie.Need-same-requires
+same-requires c κs = search needs
+
+moved-requires : tie.Need-moved-requires
+moved-requires c κs = search needs
+
+returns : tie.Need-returns
+returns c = search needs
+
+returns-2 : tie.Need-returns-2
+returns-2 c = search needs
+
+returns-3 : tie.Need-returns-3
+returns-3 c = search needs
+
+same-length : tie.Need-same-length
+same-length c = search needs
+
 pub reply-spec : {M : Type 1} → statement M
-reply-spec = tie.close (tie.spec spaces-from-requires word-end-requires sub-command-of part-command-of-start part-command-of-end command-of-requires enum-told)
+reply-spec =
+    tie.close
+    (tie.spec
+    spaces-from-requires
+    word-end-requires
+    sub-command-of
+    part-command-of-start
+    part-command-of-end
+    command-of-requires
+    enum-told
+    read-requires
+    returns
+    numbers-from-requires
+    same-requires
+    returns-2
+    moved-requires
+    same-length
+    returns-3)
