@@ -1,7 +1,7 @@
 // What the list program writes for an input: document 01, "The list program"; and the same without the solutions' lines, for timing. What decides is in `input` and `listing`.
 ghost use mathlib.Core.Path.{_≡_};
 ghost use mathlib.Core.Bool.{true};
-ghost use Prim.Native.Nat.{_<_};
+ghost use Prim.Native.Nat.{_<_, _≤_};
 ghost use lib.ListN.{length};
 ghost use Rattle.session.specs.Session.{meaning};
 ghost use Rattle.listing.specs.Given.{leftOf};
@@ -50,11 +50,13 @@ fn print_refusal(fd: i32, f: Refusal, at: usize) {
 
 // All solutions, each with its line or without, and their number.
 fn print_all(fd: i32, s: Session, lines: bool) {
+    let mut space = output_buffer();
+    let out: &mut [u8] = &mut space;
     let mut left = s;
     let mut total = Wide { hi: 0, lo: 0 };
     let mut more = true;
     while more {
-        let p = page(fd, left, lines);
+        let p = page(fd, left, lines, out);
         total = total.plus(p.count as u64);
         left = p.session;
         more = p.more;
@@ -62,12 +64,13 @@ fn print_all(fd: i32, s: Session, lines: bool) {
     print_end(fd, total);
 }
 
-// One hand-out, printed or not.
-fn page(fd: i32, s: Session, lines: bool) -> Page
+// One hand-out, printed by way of a slice that has room for a point at least, or not printed.
+fn page(fd: i32, s: Session, lines: bool, out: &mut [u8]) -> Page
+    requires { ⌜ 126 ≤ length (now out) ⌝ }
     ensures { λ r. ⌜ (r .more ≡ true → leftOf (meaning (r .session)) < leftOf (meaning s)) ⌝ }
 {
     if lines {
-        print_page(fd, s)
+        print_page(fd, s, out)
     } else {
         count_page(s)
     }
@@ -111,11 +114,11 @@ fn output_buffer() -> [u8; 131072]
 }
 
 // One hand-out's lines.
-fn print_page(fd: i32, s: Session) -> Page
+fn print_page(fd: i32, s: Session, out: &mut [u8]) -> Page
+    requires { ⌜ 126 ≤ length (now out) ⌝ }
     ensures { λ r. ⌜ (r .more ≡ true → leftOf (meaning (r .session)) < leftOf (meaning s)) ⌝ }
 {
-    let mut out = output_buffer();
-    let p = listing::next(s, &mut out);
+    let p = listing::next(s, out);
     let n = p.length;
     print(fd, &out[..n]);
     p

@@ -1,9 +1,10 @@
--- `print_all` ends: each page but the last leaves less. Assumes nothing.
+-- `print_all` ends: each page but the last leaves less. The invariant: the slice keeps its length. Assumes nothing.
 use Prim.Native.Nat.{ℕ, suc, _<_}
-use mathlib.Core.Path.{_≡_, refl}
+use mathlib.Core.Path.{_≡_, refl, sym, _∙_}
 use mathlib.Core.Bool.{Bool, true, false}
 use native.Mathlib.Omega.{arith}
 use borrow.Author.Needs.{needs}
+use lib.ListN.{length}
 use Rattle.session.specs.Session.{meaning}
 use Rattle.listing.specs.Given.{leftOf}
 use Rattle.printing.proofs.print_all.Statement.{statement}
@@ -19,29 +20,40 @@ less true n m h = let k = h refl in omega arith
 less false n m h = omega arith
 
 abbrev Inv-loop : tie.InvT-loop
-Inv-loop fd lines left₀ total₀ more₀ left total more = Unit {0}
+Inv-loop fd lines out₀ left₀ total₀ more₀ out left total more = length out ≡ 131072
 
 abbrev μ-loop : tie.MeasureT-loop
-μ-loop fd lines left₀ total₀ more₀ left total more = weight more (leftOf (meaning left))
+μ-loop fd lines out₀ left₀ total₀ more₀ out left total more = weight more (leftOf (meaning left))
+
+output-buffer-requires : tie.Need-output-buffer-requires Inv-loop μ-loop
+output-buffer-requires c κs = search needs
+
+slice-aggregate-out : tie.Need-slice-aggregate-out Inv-loop μ-loop
+slice-aggregate-out c = search needs
 
 loop-holds : tie.Need-loop-holds Inv-loop μ-loop
-loop-holds c = tt
+loop-holds c = sym (c .before .output-buffer .ensures)
 
 page-requires : tie.Need-page-requires Inv-loop μ-loop
-page-requires c κs = search needs
+page-requires c κs = let i = c .before .before .loop .inv in omega arith
 
 plus-requires : tie.Need-plus-requires Inv-loop μ-loop
 plus-requires c κs = search needs
 
 loop-less : tie.Need-loop-less Inv-loop μ-loop
 loop-less c =
-    let p = c .before .before in
-    let l = p .before .before in
-    rw (p .before .loop-test .taken)
+    let p = c .before .before .before .before in
+    let t = p .before .before in
+    let l = t .before in
+    rw (t .loop-test .taken)
     (less (p .page .result .more) (leftOf (meaning (p .page .result .session))) (leftOf (meaning (l .loop .left))) (p .page .ensures))
 
 loop-again : tie.Need-loop-again Inv-loop μ-loop
-loop-again c = tt
+loop-again c =
+    let p = c .before .before .before .before in
+    let l = p .before .before .before in
+    let e : length (p .page .last .1 .1 .1 .0) ≡ length (l .loop .out) = search needs in
+    e ∙ l .loop .inv
 
 print-end-requires : tie.Need-print-end-requires Inv-loop μ-loop
 print-end-requires c κs = search needs
@@ -55,6 +67,8 @@ print-all-spec =
     (tie.spec
     Inv-loop
     μ-loop
+    output-buffer-requires
+    slice-aggregate-out
     loop-holds
     page-requires
     plus-requires

@@ -1,7 +1,8 @@
 -- `print_page` is safe, and less is left after it. Assumes nothing.
-use Prim.Native.Nat.{_≤_}
+use Prim.Native.Nat.{_/_, _≤_}
 use mathlib.Core.Path.{_≡_, sym, _∙_}
-use lib.Dec.{lit≤}
+use native.Mathlib.Nat.{le-min}
+use native.Mathlib.Omega.{arith}
 use lib.ListN.{length}
 use lib.Seq.{length-take-le}
 use Rattle.session.specs.Session.{meaning}
@@ -15,40 +16,38 @@ use Rattle.printing.proofs.print_page.Tie as tie
 within : (p : tie.After-next) → p .next .result .length ≤ length (p .next .last .1 .0)
 within p = appended-within _ _ _ _ (p .next .ensures .text)
 
-output-buffer-requires : tie.Need-output-buffer-requires
-output-buffer-requires c κs = search needs
-
-slice-aggregate-next : tie.Need-slice-aggregate-next
-slice-aggregate-next c = search needs
-
 next-requires : tie.Need-next-requires
 next-requires c κs = search needs
 
-array-share-prefix-out : tie.Need-array-share-prefix-out
-array-share-prefix-out c = within (c .before)
+slice-reshare-prefix-print : tie.Need-slice-reshare-prefix-print
+slice-reshare-prefix-print c = within (c .before .before)
 
 slice-aggregate-print : tie.Need-slice-aggregate-print
-slice-aggregate-print c = sym (length-take-le _ _ (within (c .before .before)))
+slice-aggregate-print c = sym (length-take-le _ _ (within (c .before .before .before)))
 
 print-requires : tie.Need-print-requires
 print-requires c κs = search needs
 
+same-length : tie.Need-same-length
+same-length c = search needs
+
 returns : tie.Need-returns
 returns c e =
-    let p = c .before .before .before in
-    let b = p .before .before in
-    let m = meaning (b .before .args .s) in
-    let room : 1 ≤ roomIn (length (b .output-buffer .result)) = rw (← b .output-buffer .ensures) (lit≤ tt) in
-    rw (p .next .ensures .session) (page-less (roomIn (length (b .output-buffer .result))) room m (sym (p .next .ensures .more) ∙ e))
+    let p = c .before .before .before .before in
+    let s = p .before .before .before in
+    let n = length (s .args .out .now) in
+    let h = s .pre in
+    let some : 1 ≤ n / 126 = omega arith in
+    let room : 1 ≤ roomIn n = le-min (omega arith) some in
+    rw (p .next .ensures .session) (page-less (roomIn n) room (meaning (s .args .s)) (sym (p .next .ensures .more) ∙ e))
 
 pub print-page-spec : {M : Type 1} → statement M
 print-page-spec =
     tie.close
     (tie.spec
-    output-buffer-requires
-    slice-aggregate-next
     next-requires
-    array-share-prefix-out
+    slice-reshare-prefix-print
     slice-aggregate-print
     print-requires
+    same-length
     returns)
