@@ -94,7 +94,7 @@ tell() {
 calls() {
     echo "First point (hand) and the plain question: jobs, target, within it, over the limit of $call_limit s, the worst of the others"
     local family target
-    for family in disks:0.020 tilted:0.020 skewed:1.500 zero:0.100; do
+    for family in disks:0.020 tilted:0.020 skewed:1.500 zero:0.100 thin:0.100; do
         target=${family#*:}
         family=${family%:*}
         rm -f "$scratch/first" "$scratch/plain"

@@ -10,6 +10,8 @@ pub type Named = (String, [Vec<u8>; 3]);
 
 const DISK: [i64; 3] = [1, 0, 1];
 
+const FAR: [i64; 2] = [-10_000, 10_000];
+
 /// P, Q and R with PR − Q² from 1 to 4, and with P and R from 90 on and the
 /// least PR − Q²; each is used with the one after it.
 const FORMS: [[i64; 3]; 8] = [
@@ -24,7 +26,7 @@ const FORMS: [[i64; 3]; 8] = [
 ];
 
 pub fn jobs() -> Vec<Named> {
-    [disks(), tilted(), whole(), skewed(), zero(), reduction()].concat()
+    [disks(), tilted(), whole(), skewed(), zero(), thin(), reduction()].concat()
 }
 
 fn job(name: String, k: i64, a: &Region, b: &Region) -> Named {
@@ -118,9 +120,8 @@ fn skewed() -> Vec<Named> {
 
 /// Regions of zero width, of one point, and the wrong way round, against all.
 fn zero() -> Vec<Named> {
-    let far = [-10_000, 10_000];
-    let all = rectangle(1, far, far);
-    let thin = [
+    let far = FAR;
+    let regions = [
         ("x0", rectangle(1, [0, 0], far)),
         ("x1", rectangle(1, [1, 1], far)),
         ("x_third", rectangle(3, [1, 1], far)),
@@ -139,11 +140,35 @@ fn zero() -> Vec<Named> {
         ("y_reversed", rectangle(1, far, [1, 0])),
         ("both_reversed", rectangle(1, [1, 0], [1, 0])),
     ];
+    against_all("zero", &regions)
+}
+
+/// Regions that are thin or small, but not of zero width, against all.
+fn thin() -> Vec<Named> {
+    let far = FAR;
+    let regions = [
+        ("x_1", rectangle(1, [0, 1], far)),
+        ("x_hundredth", rectangle(100, [33, 34], far)),
+        ("y_1", rectangle(1, far, [0, 1])),
+        ("y_hundredth", rectangle(100, far, [33, 34])),
+        ("square_1", rectangle(1, [0, 1], [0, 1])),
+        ("square_hundredth", rectangle(100, [33, 34], [71, 72])),
+        ("square_off", rectangle(100, [9_998, 9_999], [-9_999, -9_998])),
+        ("disk_1", ellipse(1, [0, 0], DISK, 1)),
+        ("disk_hundredth", ellipse(100, [3, 5], DISK, 1)),
+        ("disk_thousandth", ellipse(100, [3, 5], [100, 0, 100], 1)),
+    ];
+    against_all("thin", &regions)
+}
+
+/// Each region on either side against the rectangle of ±10,000.
+fn against_all(family: &str, regions: &[(&str, Region)]) -> Vec<Named> {
+    let all = rectangle(1, FAR, FAR);
     let mut jobs = Vec::new();
-    for (name, region) in &thin {
+    for (name, region) in regions {
         for k in [0, 6, 12] {
-            jobs.push(job(format!("zero-A-{name}-k{k:02}"), k, region, &all));
-            jobs.push(job(format!("zero-B-{name}-k{k:02}"), k, &all, region));
+            jobs.push(job(format!("{family}-A-{name}-k{k:02}"), k, region, &all));
+            jobs.push(job(format!("{family}-B-{name}-k{k:02}"), k, &all, region));
         }
     }
     jobs
