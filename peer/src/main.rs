@@ -40,6 +40,7 @@ const USAGE: &str = "usage: peer [list | count | first] < job
        peer gen SEED COUNT DIR
        peer pack < records > job
        peer jobs DIR
+       peer noise
        peer bytes PROGRAM FROM TO STEP";
 
 type Outcome = Result<(), Box<dyn Error>>;
@@ -74,6 +75,7 @@ fn run(arguments: &[String]) -> Outcome {
         }
         ("pack", []) => pack(),
         ("jobs", [directory]) => write_jobs(Path::new(directory)),
+        ("noise", []) => noise(),
         ("bytes", [program, from, to, step]) => {
             check_bytes(program, number(from)?, number(to)?, number(step)?)
         }
@@ -114,6 +116,24 @@ fn with_job(act: impl FnOnce(&Job) -> Outcome) -> Outcome {
         Ok(job) => act(&job),
         Err(instead) => say(instead),
     }
+}
+
+/// What the list program prints for bytes of every length up to 70,000: n of
+/// them from place n on, of a generator that makes a quarter of them small.
+fn noise() -> Outcome {
+    let mut x: u32 = 1;
+    let bytes: Vec<u8> = std::iter::repeat_with(|| {
+        x = x.wrapping_mul(1_664_525).wrapping_add(1_013_904_223);
+        let byte = (x >> 24) as u8;
+        if (x >> 16) % 4 == 0 { byte % 6 } else { byte }
+    })
+    .take(140_000)
+    .collect();
+    let mut out = io::BufWriter::new(io::stdout().lock());
+    for n in 0..=70_000 {
+        list(&bytes[n..2 * n], &mut out)?;
+    }
+    Ok(out.flush()?)
 }
 
 /// Writes what the list program prints for an input.

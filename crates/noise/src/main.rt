@@ -1,0 +1,45 @@
+// Random bytes of every length from 0 to 70,000: for each what the list program prints. The expected output is the peer's, from its own parser and its own copy of the bytes.
+ghost use mathlib.Core.Path.{_≡_};
+ghost use lib.ListN.{length};
+use libc::STDOUT_FILENO;
+
+fn main() {
+    let mut space = buffer();
+    fill(&mut space);
+    list_all(&space);
+}
+
+fn buffer() -> [u8; 140000]
+    ensures { λ r. ⌜ 140000 ≡ length r ⌝ }
+{
+    [0; 140000]
+}
+
+// Bytes of a linear congruential generator; a quarter of them are from 0 to 5, so that kinds and scales are among them.
+fn fill(bytes: &mut [u8]) {
+    let mut x: u32 = 1;
+    let mut i = 0;
+    while i < bytes.len() {
+        x = next(x);
+        bytes[i] = byte_of(x);
+        i += 1;
+    }
+}
+
+fn next(x: u32) -> u32 {
+    ((x as u64 * 1664525 + 1013904223) % 4294967296) as u32
+}
+
+fn byte_of(x: u32) -> u8 {
+    let b = (x / 16777216) as u8;
+    if x / 65536 % 4 == 0 { b % 6 } else { b }
+}
+
+// The n bytes from place n on, for each n.
+fn list_all(bytes: &[u8]) {
+    let mut n = 0;
+    while n <= bytes.len() / 2 {
+        printing::print_list(STDOUT_FILENO, &bytes[n..n + n]);
+        n += 1;
+    }
+}
