@@ -12,9 +12,9 @@ use Rattle.scan.specs.Run.{spacesFrom}
 use Rattle.scan.specs.Number.{numberAt}
 use Rattle.scan.specs.declared.Number.{Number}
 use Rattle.scan.specs.declared.Number.the-variants.{Value, Bad}
-use Rattle.console.specs.declared.words.Numbers.{Numbers}
-use Rattle.console.specs.declared.words.Slice.{Slice}
-use Rattle.console.specs.declared.words.Slice.the-variants.{Length, TooLong}
+use Rattle.console.specs.declared.wording.Numbers.{Numbers}
+use Rattle.console.specs.declared.wording.Slice.{Slice}
+use Rattle.console.specs.declared.wording.Slice.the-variants.{Length, TooLong}
 
 -- the numbers, or a line that is not read
 pub data Listed : Type 0 where

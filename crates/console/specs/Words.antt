@@ -6,8 +6,8 @@ use mathlib.Core.List.{List, [], _∷_}
 use native.Mathlib.Omega.{arith}
 use lib.Dec.{eqb}
 use borrow.Author.Tests.{eqb-true, eq-eqb}
-use Rattle.console.specs.declared.words.Command.{Command}
-use Rattle.console.specs.declared.words.Command.the-variants.{Read, Hand, Rewind, Clear, Plain, Image, Sign, Line, Operator, Apply, Inverse, Exponent, Unknown}
+use Rattle.console.specs.declared.wording.Command.{Command}
+use Rattle.console.specs.declared.wording.Command.the-variants.{Read, Hand, Rewind, Clear, Plain, Image, Sign, Line, Operator, Apply, Inverse, Exponent, Unknown}
 
 -- the same bytes
 unfoldable pub isName : List ℕ → List ℕ → Bool

@@ -2,11 +2,11 @@
 use crate::put::Line;
 use crate::put::Value;
 use crate::steps;
-use crate::words;
-use crate::words::Eight;
-use crate::words::Four;
-use crate::words::Numbers;
-use crate::words::Slice;
+use crate::wording;
+use crate::wording::Eight;
+use crate::wording::Four;
+use crate::wording::Numbers;
+use crate::wording::Slice;
 use integers::Narrow;
 use line::Interval;
 use line::Place;
@@ -77,7 +77,7 @@ fn line_from(n: Numbers, place: Place, space: &mut [i32]) -> Line {
     let Ends::Interval(second) = interval(n.values[3], n.values[4], n.values[5]) else {
         return Line::Bad;
     };
-    let Slice::Length(k) = words::lent(n.values[6]) else {
+    let Slice::Length(k) = wording::lent(n.values[6]) else {
         return Line::Bad;
     };
     line_into(first, second, place, space, k)
@@ -118,7 +118,7 @@ pub fn operator(n: Numbers) -> Line {
         return Line::Bad;
     }
     let values = n.values;
-    let Eight::Operator(g) = words::operator_of(values) else {
+    let Eight::Operator(g) = wording::operator_of(values) else {
         return Line::Bad;
     };
     let t = test(g);
@@ -134,10 +134,10 @@ pub fn apply(n: Numbers) -> Line {
         return Line::Bad;
     }
     let values = n.values;
-    let Eight::Operator(g) = words::operator_of(values) else {
+    let Eight::Operator(g) = wording::operator_of(values) else {
         return Line::Bad;
     };
-    let Four::Point(v) = words::point(n.values[8], n.values[9], n.values[10], n.values[11]) else {
+    let Four::Point(v) = wording::point(n.values[8], n.values[9], n.values[10], n.values[11]) else {
         return Line::Bad;
     };
     image(g, v)
@@ -157,7 +157,7 @@ pub fn inverse(n: Numbers) -> Line {
         return Line::Bad;
     }
     let values = n.values;
-    let Eight::Operator(g) = words::operator_of(values) else {
+    let Eight::Operator(g) = wording::operator_of(values) else {
         return Line::Bad;
     };
     inverse_of(g)
@@ -178,7 +178,7 @@ pub fn exponent(n: Numbers) -> Line {
     if n.count != 5 {
         return Line::Bad;
     }
-    let Four::Point(v) = words::point(n.values[1], n.values[2], n.values[3], n.values[4]) else {
+    let Four::Point(v) = wording::point(n.values[1], n.values[2], n.values[3], n.values[4]) else {
         return Line::Bad;
     };
     exponent_at(n.values[0], v)

@@ -2,7 +2,7 @@
 mod apart;
 mod put;
 mod steps;
-mod words;
+mod wording;
 
 ghost use mathlib.Core.Path.{_≡_};
 ghost use Prim.Native.Nat.{_≤_};
@@ -12,8 +12,8 @@ use libc::STDOUT_FILENO;
 use put::Line;
 use session::Session;
 use steps::Reply;
-use words::Command;
-use words::Numbers;
+use wording::Command;
+use wording::Numbers;
 
 fn main() {
     let mut space = input_buffer();
@@ -73,11 +73,11 @@ fn write(out: &[u8], n: usize) {
 fn reply(s: Session, line: &[u8], numbers: &mut [i32]) -> Reply {
     let first = scan::spaces_from(line, 0);
     let end = scan::word_end(line, first);
-    let c = words::command_of(&line[first..end]);
+    let c = wording::command_of(&line[first..end]);
     if let Command::Read = c {
         return steps::read(s, line, end);
     }
-    let n = words::numbers_from(line, end);
+    let n = wording::numbers_from(line, end);
     if !n.good {
         return steps::same(s, Line::Bad);
     }

@@ -3,10 +3,10 @@ ghost use mathlib.Core.Path.{_≡_};
 ghost use lib.ListN.{length};
 use crate::put::Line;
 use crate::put::Value;
-use crate::words;
-use crate::words::Four;
-use crate::words::Numbers;
-use crate::words::Slice;
+use crate::wording;
+use crate::wording::Four;
+use crate::wording::Numbers;
+use crate::wording::Slice;
 use session::Answer;
 use session::Outcome;
 use session::Session;
@@ -94,7 +94,7 @@ pub fn hand(s: Session, n: Numbers, space: &mut [i32]) -> Reply {
     if n.count != 1 {
         return same(s, Line::Bad);
     }
-    let l = words::lent(n.values[0]);
+    let l = wording::lent(n.values[0]);
     match l {
         Slice::Length(k) => hand_out(s, space, k),
         Slice::TooLong => same(s, Line::Bad),
@@ -134,7 +134,7 @@ pub fn image(s: Session, n: Numbers) -> Line {
     if n.count != 4 {
         return Line::Bad;
     }
-    let v = words::point(n.values[0], n.values[1], n.values[2], n.values[3]);
+    let v = wording::point(n.values[0], n.values[1], n.values[2], n.values[3]);
     match v {
         Four::Point(w) => answered(session::has_image(s, w)),
         Four::TooWide => Line::Bad,

@@ -10,6 +10,7 @@ use Rattle.integers.specs.Parity.{half}
 use Rattle.integers.specs.Size.{size-neg, size-+, size--, fits→size, size-*≤, size→fits}
 use Rattle.ring.specs.declared.Point.{Point}
 use Rattle.operator.specs.declared.Operator.{Operator}
+use Rattle.operator.specs.declared.WidePoint.{WidePoint}
 use Rattle.operator.specs.declared.Entry.{Entry}
 use Rattle.operator.specs.Matrix.{Matrix, at, pairs, matrixOf}
 use Rattle.operator.specs.Halves.{size-half, half-size}
@@ -43,7 +44,14 @@ pairs-fit x y u w hx hy hu hw =
 
 -- ---- the machine's numbers
 -- the products and sums of equations 45 to 48
-pub record RowFits (p q r s : ℤ) (v : Point) : Type 0 where
+-- a point with coordinates up to 2^40
+pub record Near (v : WidePoint) : Type 0 where
+  pub a : natAbs (v .a) ≤ 2 ^ 40
+  pub b : natAbs (v .b) ≤ 2 ^ 40
+  pub c : natAbs (v .c) ≤ 2 ^ 40
+  pub d : natAbs (v .d) ≤ 2 ^ 40
+
+pub record RowFits (p q r s : ℤ) (v : WidePoint) : Type 0 where
   pub pd : SFits w64 (p *ℤ v .d)
   pub qb : SFits w64 (q *ℤ v .b)
   pub rc : SFits w64 (r *ℤ v .c)
@@ -52,12 +60,12 @@ pub record RowFits (p q r s : ℤ) (v : Point) : Type 0 where
   pub three : SFits w64 (p *ℤ v .d +ℤ q *ℤ v .b +ℤ r *ℤ v .c)
   pub four : SFits w64 (p *ℤ v .d +ℤ q *ℤ v .b +ℤ r *ℤ v .c +ℤ s *ℤ v .a)
 
-pub row-fits : (p q r s : ℤ) (v : Point) → SFits w16 p → SFits w16 q → Bounded r → Bounded s → SFits w32 (v .a) → SFits w32 (v .b) → SFits w32 (v .c) → SFits w32 (v .d) → RowFits p q r s v
-row-fits p q r s v hp hq hr hs ha hb hc hd =
-    let pd = size-*≤ p (v .d) 32768 2147483648 (fits→size hp) (fits→size hd) in
-    let qb = size-*≤ q (v .b) 32768 2147483648 (fits→size hq) (fits→size hb) in
-    let rc = size-*≤ r (v .c) 65536 2147483648 hr (fits→size hc) in
-    let sa = size-*≤ s (v .a) 65536 2147483648 hs (fits→size ha) in
+pub row-fits : (p q r s : ℤ) (v : WidePoint) → SFits w16 p → SFits w16 q → Bounded r → Bounded s → Near v → RowFits p q r s v
+row-fits p q r s v hp hq hr hs n =
+    let pd = size-*≤ p (v .d) 32768 (2 ^ 40) (fits→size hp) (n .d) in
+    let qb = size-*≤ q (v .b) 32768 (2 ^ 40) (fits→size hq) (n .b) in
+    let rc = size-*≤ r (v .c) 65536 (2 ^ 40) hr (n .c) in
+    let sa = size-*≤ s (v .a) 65536 (2 ^ 40) hs (n .a) in
     let two = size-+ (p *ℤ v .d) (q *ℤ v .b) in
     let three = size-+ (p *ℤ v .d +ℤ q *ℤ v .b) (r *ℤ v .c) in
     let four = size-+ (p *ℤ v .d +ℤ q *ℤ v .b +ℤ r *ℤ v .c) (s *ℤ v .a) in

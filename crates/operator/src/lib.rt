@@ -6,6 +6,7 @@ ghost use Rattle.operator.specs.Operator.{identity, inRange, evenParity,
 ghost use Rattle.operator.specs.Matrix.{matrixOf, productOf, determinantOf};
 ghost use Rattle.operator.specs.Inverse.{adjugate, times, inverseOf};
 ghost use Rattle.operator.specs.Accepted.{Small};
+ghost use Rattle.operator.specs.Bounded.{Near};
 use ring::Point;
 
 mod conditions;
@@ -119,6 +120,19 @@ impl Operator {
     // Gv, by 000, equations 45 to 48.
     pub fn image(self, v: Point) -> WidePoint
         ensures { λ r. ⌜ wide r ≡ imageOf self v ⌝ }
+    {
+        self.image_wide(WidePoint {
+            a: v.a as i64,
+            b: v.b as i64,
+            c: v.c as i64,
+            d: v.d as i64,
+        })
+    }
+
+    // Gv for a point of 64-bit numbers up to 2^40.
+    pub fn image_wide(self, v: WidePoint) -> WidePoint
+        requires { ⌜ Near v ⌝ }
+        ensures { λ r. ⌜ wide r ≡ imageOf self (wide v) ⌝ }
     {
         WidePoint {
             a: rows::minus(self.a, self.ai, self.bi, self.di, self.b, self.d, v),

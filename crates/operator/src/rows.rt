@@ -2,20 +2,22 @@
 ghost use mathlib.Core.Path.{_≡_};
 ghost use lib.IntN.{_+ℤ_, _-ℤ_, _*ℤ_};
 ghost use Rattle.integers.specs.Parity.{half};
-ghost use Rattle.operator.specs.Bounded.{Bounded};
+ghost use Rattle.operator.specs.Bounded.{Bounded, Near};
+use crate::WidePoint;
 use crate::sums::half_difference;
 use crate::sums::half_sum;
-use ring::Point;
 
 // Equations 46 and 47.
-pub(crate) fn plus(p: i16, q: i16, x: i16, y: i16, z: i16, w: i16, v: Point) -> i64
+pub(crate) fn plus(p: i16, q: i16, x: i16, y: i16, z: i16, w: i16, v: WidePoint) -> i64
+    requires { ⌜ Near v ⌝ }
     ensures { λ r. ⌜ r ≡ p *ℤ v .d +ℤ q *ℤ v .b +ℤ half (x +ℤ y +ℤ z +ℤ w) *ℤ v .c +ℤ half (x +ℤ y -ℤ z -ℤ w) *ℤ v .a ⌝ }
 {
     row(p, q, half_sum(x, y, z, w), half_difference(x, y, z, w), v)
 }
 
 // Equations 45 and 48.
-pub(crate) fn minus(p: i16, q: i16, x: i16, y: i16, z: i16, w: i16, v: Point) -> i64
+pub(crate) fn minus(p: i16, q: i16, x: i16, y: i16, z: i16, w: i16, v: WidePoint) -> i64
+    requires { ⌜ Near v ⌝ }
     ensures { λ r. ⌜ r ≡ p *ℤ v .d +ℤ q *ℤ v .b +ℤ half (x -ℤ y +ℤ z -ℤ w) *ℤ v .c +ℤ half (x -ℤ y -ℤ z +ℤ w) *ℤ v .a ⌝ }
 {
     row(
@@ -27,9 +29,9 @@ pub(crate) fn minus(p: i16, q: i16, x: i16, y: i16, z: i16, w: i16, v: Point) ->
     )
 }
 
-fn row(p: i16, q: i16, r: i32, s: i32, v: Point) -> i64
-    requires { ⌜ Bounded r × Bounded s ⌝ }
+fn row(p: i16, q: i16, r: i32, s: i32, v: WidePoint) -> i64
+    requires { ⌜ Bounded r × Bounded s × Near v ⌝ }
     ensures { λ u. ⌜ u ≡ p *ℤ v .d +ℤ q *ℤ v .b +ℤ r *ℤ v .c +ℤ s *ℤ v .a ⌝ }
 {
-    p as i64 * v.d as i64 + q as i64 * v.b as i64 + r as i64 * v.c as i64 + s as i64 * v.a as i64
+    p as i64 * v.d + q as i64 * v.b + r as i64 * v.c + s as i64 * v.a
 }

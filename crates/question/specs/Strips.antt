@@ -39,10 +39,10 @@ pub power-odd : (k : ℕ) → k % 2 ≡ 1 → √2^ k ≡ record { p = pos 0; q 
 power-odd zero e = absurd (omega arith)
 power-odd (suc k) e = let h : k / 2 ≡ suc k / 2 = omega arith in weight-even k (omega arith) ∙ ap (λ (n : ℕ). record { p = pos 0; q = pos (2 ^ n) }) h
 
-pub power-sized : (k : ℕ) → k ≤ topScale → Sized 64 64 (√2^ k)
+pub power-sized : (k : ℕ) → k ≤ topScale → Sized 1024 1024 (√2^ k)
 power-sized k h = elim (eq-zero-or-pos (k % 2)) [
-  | inl e ↦ rw (power-even k e) (record { p = pow-mono {i = k / 2} {j = 6} (omega arith); q = omega arith })
-  | inr l ↦ rw (power-odd k (omega arith)) (record { p = omega arith; q = pow-mono {i = k / 2} {j = 6} (omega arith) })
+  | inl e ↦ rw (power-even k e) (record { p = pow-mono {i = k / 2} {j = 10} (omega arith); q = omega arith })
+  | inr l ↦ rw (power-odd k (omega arith)) (record { p = omega arith; q = pow-mono {i = k / 2} {j = 10} (omega arith) })
 ]
 
 -- ---- sizes of a strip's numbers
@@ -55,25 +55,25 @@ pub record Ends (s : Strip) : Type 0 where
   pub lo : Sized endSize endSize (s .lo)
   pub hi : Sized endSize endSize (s .hi)
 
-pub power-size : (k : ℕ) (x : RootTwo) (a : ℕ) → k ≤ topScale → Sized a a x → Sized (a * 64) (a * 64) (x ⊠ √2^ k)
+pub power-size : (k : ℕ) (x : RootTwo) (a : ℕ) → k ≤ topScale → Sized a a x → Sized (a * 1024) (a * 1024) (x ⊠ √2^ k)
 power-size k x a h s = elim (eq-zero-or-pos (k % 2)) [ inl e ↦ even e | inr l ↦ odd (omega arith) ]
   where
-    even : k % 2 ≡ 0 → Sized (a * 64) (a * 64) (x ⊠ √2^ k)
+    even : k % 2 ≡ 0 → Sized (a * 1024) (a * 1024) (x ⊠ √2^ k)
     even e =
         let t = pos (2 ^ (k / 2)) in
-        let l : 2 ^ (k / 2) ≤ 64 = pow-mono {i = k / 2} {j = 6} (omega arith) in
+        let l : 2 ^ (k / 2) ≤ 1024 = pow-mono {i = k / 2} {j = 10} (omega arith) in
         rw (power-even k e, product-parts) (record {
-          p = omega (arith, size-+ (x .p *ℤ t) (pos 2 *ℤ (x .q *ℤ pos 0)), size-*≤ (x .p) t a 64 (s .p) l, size-*≤ (pos 2) (x .q *ℤ pos 0) 2 (a * 0) (omega arith) (size-*≤ (x .q) (pos 0) a 0 (s .q) (omega arith)));
-          q = omega (arith, size-+ (x .p *ℤ pos 0) (x .q *ℤ t), size-*≤ (x .p) (pos 0) a 0 (s .p) (omega arith), size-*≤ (x .q) t a 64 (s .q) l);
+          p = omega (arith, size-+ (x .p *ℤ t) (pos 2 *ℤ (x .q *ℤ pos 0)), size-*≤ (x .p) t a 1024 (s .p) l, size-*≤ (pos 2) (x .q *ℤ pos 0) 2 (a * 0) (omega arith) (size-*≤ (x .q) (pos 0) a 0 (s .q) (omega arith)));
+          q = omega (arith, size-+ (x .p *ℤ pos 0) (x .q *ℤ t), size-*≤ (x .p) (pos 0) a 0 (s .p) (omega arith), size-*≤ (x .q) t a 1024 (s .q) l);
         })
 
-    odd : k % 2 ≡ 1 → Sized (a * 64) (a * 64) (x ⊠ √2^ k)
+    odd : k % 2 ≡ 1 → Sized (a * 1024) (a * 1024) (x ⊠ √2^ k)
     odd e =
         let t = pos (2 ^ (k / 2)) in
-        let l : 2 ^ (k / 2) ≤ 32 = pow-mono {i = k / 2} {j = 5} (omega arith) in
+        let l : 2 ^ (k / 2) ≤ 512 = pow-mono {i = k / 2} {j = 9} (omega arith) in
         rw (power-odd k e, product-parts) (record {
-          p = omega (arith, size-+ (x .p *ℤ pos 0) (pos 2 *ℤ (x .q *ℤ t)), size-*≤ (x .p) (pos 0) a 0 (s .p) (omega arith), size-*≤ (pos 2) (x .q *ℤ t) 2 (a * 32) (omega arith) (size-*≤ (x .q) t a 32 (s .q) l));
-          q = omega (arith, size-+ (x .p *ℤ t) (x .q *ℤ pos 0), size-*≤ (x .p) t a 32 (s .p) l, size-*≤ (x .q) (pos 0) a 0 (s .q) (omega arith));
+          p = omega (arith, size-+ (x .p *ℤ pos 0) (pos 2 *ℤ (x .q *ℤ t)), size-*≤ (x .p) (pos 0) a 0 (s .p) (omega arith), size-*≤ (pos 2) (x .q *ℤ t) 2 (a * 512) (omega arith) (size-*≤ (x .q) t a 512 (s .q) l));
+          q = omega (arith, size-+ (x .p *ℤ t) (x .q *ℤ pos 0), size-*≤ (x .p) t a 512 (s .p) l, size-*≤ (x .q) (pos 0) a 0 (s .q) (omega arith));
         })
 
 -- ---- one region

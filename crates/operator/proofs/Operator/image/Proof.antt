@@ -1,41 +1,54 @@
-use mathlib.Core.Path.{_∙_}
-use mir.Syntax.{w64}
-use Rattle.integers.specs.Size.{back}
+use mathlib.Core.Path.{_≡_, _∙_, ap}
+use Prim.Native.Nat.{_^_, _≤_}
+use native.Mathlib.Omega.{arith}
+use lib.IntN.{ℤ, natAbs}
+use mir.Syntax.{w32, w64}
+use mir.Val.{SFits, toZ, ofZ}
+use mir.Facts.{toZ-ofZ, sfits-widen}
+use borrow.Author.Needs.{needs}
+use Rattle.integers.specs.Size.{fits→size}
+use Rattle.ring.specs.declared.Point.{Point}
 use Rattle.ring.specs.Point.{ext}
 use Rattle.operator.specs.Operator.{imageOf}
-use Rattle.operator.specs.Bounded.{Fits16, bits16}
-use borrow.Author.Needs.{needs}
 use Rattle.operator.proofs.Operator.image.Statement.{statement}
 use Rattle.operator.proofs.Operator.image.Tie as tie
 
-minus-requires : tie.Need-minus-requires
-minus-requires c κs = search needs
+module _ (s : tie.Start) where
+  abbrev v : Point
+  v = s .args .v
 
-plus-requires : tie.Need-plus-requires
-plus-requires c κs = search needs
+  fits : SFits w32 (v .a) × SFits w32 (v .b) × SFits w32 (v .c) × SFits w32 (v .d)
+  fits = (search needs, search needs, search needs, search needs)
 
-plus-requires-2 : tie.Need-plus-requires-2
-plus-requires-2 c κs = search needs
+widen : {z : ℤ} → SFits w32 z → SFits w64 (toZ w32 (ofZ w32 z))
+widen h = rw (toZ-ofZ h) (sfits-widen tt h)
 
-minus-requires-2 : tie.Need-minus-requires-2
-minus-requires-2 c κs = search needs
+widened : {z : ℤ} → SFits w32 z → toZ w64 (ofZ w64 (toZ w32 (ofZ w32 z))) ≡ z
+widened h = rw (toZ-ofZ h) (toZ-ofZ (sfits-widen tt h))
 
-fits : (c : tie.Start) → Fits16 (c .args .self)
-fits c = search needs
+near : {z : ℤ} → SFits w32 z → natAbs (toZ w64 (ofZ w64 (toZ w32 (ofZ w32 z)))) ≤ 2 ^ 40
+near h = rw (widened h) (omega (arith, fits→size h))
+
+cast-t3 : tie.Need-cast-t3
+cast-t3 c = widen (fits (c .before .before) .0)
+
+cast-t4 : tie.Need-cast-t4
+cast-t4 c = widen (fits (c .before .before .before .before) .1)
+
+cast-t5 : tie.Need-cast-t5
+cast-t5 c = widen (fits (c .before .before .before .before .before .before) .2)
+
+cast-t6 : tie.Need-cast-t6
+cast-t6 c = widen (fits (c .before .before .before .before .before .before .before .before) .3)
+
+image-wide-requires : tie.Need-image-wide-requires
+image-wide-requires c κs = let f = fits (c .before .before .before .before .before .before .before .before) in record { a = near (f .0); b = near (f .1); c = near (f .2); d = near (f .3) }
 
 returns : tie.Need-returns
-unfolding imageOf
 returns c =
-    let c3 = c .before .before .before .before .before .before .before in
-    let c2 = c3 .before .before .before .before .before .before .before in
-    let c1 = c2 .before .before .before .before .before .before .before in
-    let r = bits16 (fits (c1 .before .before .before .before .before .before .before)) in
-    ext
-    (back w64 (c1 .minus .ok) ∙ rw (r .a, r .ai, r .bi, r .di, r .b, r .d) at (c1 .minus .ensures))
-    (back w64 (c2 .plus .ok) ∙ rw (r .b, r .bi, r .ci, r .ai, r .c, r .a) at (c2 .plus .ensures))
-    (back w64 (c3 .plus2 .ok) ∙ rw (r .c, r .ci, r .bi, r .di, r .b, r .d) at (c3 .plus2 .ensures))
-    (back w64 (c .minus2 .ok) ∙ rw (r .d, r .di, r .ci, r .ai, r .c, r .a) at (c .minus2 .ensures))
+    let s = c .before .before .before .before .before .before .before .before .before in
+    let f = fits s in
+    c .image-wide .ensures ∙ ap (imageOf (s .args .self)) (ext (widened (f .0)) (widened (f .1)) (widened (f .2)) (widened (f .3)))
 
 pub image-spec : {M : Type 1} → statement M
-image-spec =
-    tie.close (tie.spec minus-requires plus-requires plus-requires-2 minus-requires-2 returns)
+image-spec = tie.close (tie.spec cast-t3 cast-t4 cast-t5 cast-t6 image-wide-requires returns)

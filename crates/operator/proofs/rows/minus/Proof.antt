@@ -27,7 +27,7 @@ second-is c = let f = c .before .before .fits in back w32 (c .half-difference2 .
 row-requires : tie.Need-row-requires
 row-requires c κs =
     let f = c .before .before .fits in
-    rw (first-is (c .before), second-is c) (halves-bounded _ _ _ _ (f .x) (f .z) (f .y) (f .w) .1, halves-bounded _ _ _ _ (f .x) (f .w) (f .y) (f .z) .1)
+    rw (first-is (c .before), second-is c) (halves-bounded _ _ _ _ (f .x) (f .z) (f .y) (f .w) .1, halves-bounded _ _ _ _ (f .x) (f .w) (f .y) (f .z) .1, c .before .before .pre)
 
 -- x + z − y − w = x − y + z − w and x + w − y − z = x − y − z + w
 swap : (x y z w : ℤ) → (x +ℤ z -ℤ y -ℤ w ≡ x -ℤ y +ℤ z -ℤ w) × (x +ℤ w -ℤ y -ℤ z ≡ x -ℤ y -ℤ z +ℤ w)

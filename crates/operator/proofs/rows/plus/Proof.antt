@@ -23,7 +23,7 @@ difference-is : (c : tie.After-half-difference) → let a = c .before .before .a
 difference-is c = let f = c .before .before .fits in back w32 (c .half-difference .ok) ∙ rw (toZ-ofZ (f .x), toZ-ofZ (f .y), toZ-ofZ (f .z), toZ-ofZ (f .w)) at (c .half-difference .ensures)
 
 row-requires : tie.Need-row-requires
-row-requires c κs = let f = c .before .before .fits in rw (sum-is (c .before), difference-is c) (halves-bounded _ _ _ _ (f .x) (f .y) (f .z) (f .w))
+row-requires c κs = let f = c .before .before .fits in rw (sum-is (c .before), difference-is c) (let h = halves-bounded _ _ _ _ (f .x) (f .y) (f .z) (f .w) in (h .0, h .1, c .before .before .pre))
 
 returns : tie.Need-returns
 returns c =

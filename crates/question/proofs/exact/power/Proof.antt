@@ -17,8 +17,8 @@ cast-h c = search needs
 shl-h : tie.Need-shl-h
 shl-h c = search needs
 
-small : (k : ℕ) → k ≤ 12 → ((1 * 2 ^ (k / 2)) % 2 ^ 64 ≡ 2 ^ (k / 2)) × (2 ^ (k / 2) ≤ 64)
-small k h = (shl-exact 1 (k / 2) 64 (omega arith) (omega arith) ∙ omega arith, pow-mono {i = k / 2} {j = 6} (omega arith))
+small : (k : ℕ) → k ≤ 20 → ((1 * 2 ^ (k / 2)) % 2 ^ 64 ≡ 2 ^ (k / 2)) × (2 ^ (k / 2) ≤ 1024)
+small k h = (shl-exact 1 (k / 2) 64 (omega arith) (omega arith) ∙ omega arith, pow-mono {i = k / 2} {j = 10} (omega arith))
 
 cast-t7 : tie.Need-cast-t7
 cast-t7 c = let s = small (c .before .args .k) (c .before .pre) in record { sfits = omega arith }

@@ -48,10 +48,10 @@ cast-t11 c = search needs
 -- a reach times √2^k
 module _ (s : tie.Start) (h w : RootTwo) (e : w ≡ √2^ (s .args .k)) (z : Sized reachSize reachSize h) where
   fit : Products h w
-  fit = subst (Products h) (sym e) (products h (√2^ (s .args .k)) reachSize 64 z (power-sized (s .args .k) (s .pre .1)) (omega arith))
+  fit = subst (Products h) (sym e) (products h (√2^ (s .args .k)) reachSize 1024 z (power-sized (s .args .k) (s .pre .1)) (omega arith))
 
   small : Sized (2 ^ 60) (2 ^ 60) (h ⊠ w)
-  small = subst (λ w. Sized (2 ^ 60) (2 ^ 60) (h ⊠ w)) (sym e) (sized-more (reachSize * 64) (2 ^ 60) _ (omega arith) (power-size (s .args .k) h reachSize (s .pre .1) z))
+  small = subst (λ w. Sized (2 ^ 60) (2 ^ 60) (h ⊠ w)) (sym e) (sized-more (reachSize * 1024) (2 ^ 60) _ (omega arith) (power-size (s .args .k) h reachSize (s .pre .1) z))
 
 product-requires : tie.Need-product-requires
 product-requires c κs =
