@@ -94,12 +94,13 @@ tell() {
 calls() {
     echo "First point (hand) and the plain question: jobs, target, within it, over the limit of $call_limit s, the worst of the others"
     local family target
-    for family in disks:0.020 tilted:0.020 skewed:1.500 zero:0.100 thin:0.100; do
+    for family in disks:0.020 tilted:0.020 skewed:1.500 zero:0.100 thin:0.100 \
+        deep_disks:0.020 deep_skewed:1.000 deep_zero:1.000 deep_thin:1.000; do
         target=${family#*:}
         family=${family%:*}
         rm -f "$scratch/first" "$scratch/plain"
         local list=("$jobs/$family"-*.job) chosen=() i step=1
-        [ "$family" = skewed ] && step=$every
+        case $family in *skewed) step=$every ;; esac
         for ((i = 0; i < ${#list[@]}; i += step)); do chosen+=("${list[i]}"); done
         both_calls "${chosen[@]}"
         tell "$family" hand "$target" "$scratch/first"

@@ -26,7 +26,13 @@ const FORMS: [[i64; 3]; 8] = [
 ];
 
 pub fn jobs() -> Vec<Named> {
-    [disks(), tilted(), whole(), skewed(), zero(), thin(), reduction()].concat()
+    let (low, high) = ([0, 3, 4, 6, 8, 10, 12], [13, 16, 20]);
+    let some = [0, 6, 12];
+    let plain = [disks(), tilted(), whole(), skewed("skewed", &low), reduction()];
+    let narrow = [zero("zero", &some), thin("thin", &some)];
+    let deep =
+        [deep_disks(), skewed("deep_skewed", &high), zero("deep_zero", &high), thin("deep_thin", &high)];
+    [plain.concat(), narrow.concat(), deep.concat()].concat()
 }
 
 fn job(name: String, k: i64, a: &Region, b: &Region) -> Named {
@@ -47,6 +53,10 @@ fn disk() -> Region {
 
 fn disks() -> Vec<Named> {
     [8, 10, 12].map(|k| job(format!("disks-k{k:02}"), k, &disk(), &disk())).to_vec()
+}
+
+fn deep_disks() -> Vec<Named> {
+    [13, 16, 20].map(|k| job(format!("deep_disks-k{k}"), k, &disk(), &disk())).to_vec()
 }
 
 /// A of semi-axes 0.107 and 0.00093, tilted, and B the unit disk.
@@ -91,7 +101,7 @@ fn alike(n: i64, [a, b]: [[i64; 2]; 2], form: usize, s: i64) -> [Region; 2] {
     [ellipse(n, a, FORMS[form], s), ellipse(n, b, FORMS[(form + 1) % FORMS.len()], s)]
 }
 
-fn skewed() -> Vec<Named> {
+fn skewed(family: &str, scales: &[i64]) -> Vec<Named> {
     let mut jobs = Vec::new();
     for (form, [p, q, r]) in FORMS.iter().enumerate() {
         for s in [1, 100, 10_000, 100_000, 1_000_000] {
@@ -105,9 +115,9 @@ fn skewed() -> Vec<Named> {
                         ("alike", alike(n, centres, form, s)),
                     ];
                     for (side, [a, b]) in sides {
-                        for k in [0, 3, 4, 6, 8, 10, 12] {
+                        for &k in scales {
                             let name =
-                                format!("skewed-{side}-{p}_{q}_{r}-n{n}-S{s}-{place}-k{k:02}");
+                                format!("{family}-{side}-{p}_{q}_{r}-n{n}-S{s}-{place}-k{k:02}");
                             jobs.push(job(name, k, &a, &b));
                         }
                     }
@@ -119,7 +129,7 @@ fn skewed() -> Vec<Named> {
 }
 
 /// Regions of zero width, of one point, and the wrong way round, against all.
-fn zero() -> Vec<Named> {
+fn zero(family: &str, scales: &[i64]) -> Vec<Named> {
     let far = FAR;
     let regions = [
         ("x0", rectangle(1, [0, 0], far)),
@@ -140,11 +150,11 @@ fn zero() -> Vec<Named> {
         ("y_reversed", rectangle(1, far, [1, 0])),
         ("both_reversed", rectangle(1, [1, 0], [1, 0])),
     ];
-    against_all("zero", &regions)
+    against_all(family, &regions, scales)
 }
 
 /// Regions that are thin or small, but not of zero width, against all.
-fn thin() -> Vec<Named> {
+fn thin(family: &str, scales: &[i64]) -> Vec<Named> {
     let far = FAR;
     let regions = [
         ("x_1", rectangle(1, [0, 1], far)),
@@ -158,15 +168,15 @@ fn thin() -> Vec<Named> {
         ("disk_hundredth", ellipse(100, [3, 5], DISK, 1)),
         ("disk_thousandth", ellipse(100, [3, 5], [100, 0, 100], 1)),
     ];
-    against_all("thin", &regions)
+    against_all(family, &regions, scales)
 }
 
 /// Each region on either side against the rectangle of ±10,000.
-fn against_all(family: &str, regions: &[(&str, Region)]) -> Vec<Named> {
+fn against_all(family: &str, regions: &[(&str, Region)], scales: &[i64]) -> Vec<Named> {
     let all = rectangle(1, FAR, FAR);
     let mut jobs = Vec::new();
     for (name, region) in regions {
-        for k in [0, 6, 12] {
+        for &k in scales {
             jobs.push(job(format!("{family}-A-{name}-k{k:02}"), k, region, &all));
             jobs.push(job(format!("{family}-B-{name}-k{k:02}"), k, &all, region));
         }

@@ -48,12 +48,13 @@ impl Generator {
     /// A name for the sort of job, and its bytes.
     pub fn job(&mut self) -> (&'static str, Vec<u8>) {
         loop {
-            let (name, bytes) = match self.random.between(0, 19) {
+            let (name, bytes) = match self.random.between(0, 22) {
                 0..=4 => ("random", self.records(Self::any_region)),
                 5..=9 => ("border", self.records(Self::border_region)),
                 10..=11 => ("near", self.records(Self::near_region)),
                 12..=13 => ("thin", self.records(Self::thin_region)),
                 14 => ("empty", self.empty()),
+                20..=22 => ("deep", self.deep()),
                 _ => ("malformed", self.malformed()),
             };
             if !is_too_large(&bytes) {
@@ -250,6 +251,31 @@ impl Generator {
             values[side] = values[side + 1] + 1;
         }
         joined(&records)
+    }
+
+    /// Two small regions around a point at a scale above 12.
+    fn deep(&mut self) -> Vec<u8> {
+        let k = self.random.between(13, 20) as u32;
+        let far = 1 << self.random.between(0, i64::from(k) / 2);
+        let mut number = || self.random.between(-far, far);
+        let v = Point { a: number(), b: number(), c: number(), d: number() };
+        let a = self.small_region(v, k);
+        let b = self.small_region(v.seen_by_b(k), k);
+        joined(&[Record::new(SCALE, &[k.into()]), a, b])
+    }
+
+    /// A region of some hundredths around v, or just beside it.
+    fn small_region(&mut self, v: Point, k: u32) -> Record {
+        let n = self.random.pick(&[50, 99, 100]);
+        let (x, y) = place_below(v, n, k);
+        let most = self.random.between(0, 3);
+        let mut out = || self.random.between(0, most);
+        if out() < 2 {
+            return Record::new(RECTANGLE, &[n, x - out(), x + out(), y - out(), y + out()]);
+        }
+        let form = self.form();
+        let s = self.random.between(0, most * most * form[0].max(form[2]));
+        ellipse(n, [x, y], form, s)
     }
 
     /// The bytes of an operator that is accepted.

@@ -27,7 +27,7 @@ const ENTRY: Field = signed(2, 100);
 
 /// The fields of kinds 01 to 04.
 const KINDS: [&[Field]; 4] = [
-    &[unsigned(1, 0, 12)],
+    &[unsigned(1, 0, 20)],
     &[N, PLACE, PLACE, PLACE, PLACE],
     &[
         N,

@@ -27,7 +27,7 @@ use std::str::FromStr;
 use std::time::Instant;
 
 use generate::Generator;
-use job::Job;
+use job::{encode, Job, ELLIPSE, OPERATOR, RECTANGLE, SCALE};
 use lines::Lines;
 use member::Point;
 use walk::Walk;
@@ -67,8 +67,8 @@ fn run(arguments: &[String]) -> Outcome {
         ("first", []) => with_job(first),
         ("line", _) => line(&numbers(rest)?),
         ("sign", [p, q]) => {
-            let [p, q] = [p, q].map(|text| number::<i64>(text));
-            say(root2::sign(p?.into(), q?.into()))
+            let [p, q] = [p, q].map(|text| number::<i128>(text));
+            say(root2::sign(p?, q?))
         }
         ("gen", [seed, count, directory]) => {
             generate(number(seed)?, number(count)?, Path::new(directory))
@@ -120,6 +120,7 @@ fn with_job(act: impl FnOnce(&Job) -> Outcome) -> Outcome {
 
 /// What the list program prints for bytes of every length up to 70,000: n of
 /// them from place n on, of a generator that makes a quarter of them small.
+/// For every third length records stand in their place.
 fn noise() -> Outcome {
     let mut x: u32 = 1;
     let bytes: Vec<u8> = std::iter::repeat_with(|| {
@@ -131,9 +132,51 @@ fn noise() -> Outcome {
     .collect();
     let mut out = io::BufWriter::new(io::stdout().lock());
     for n in 0..=70_000 {
-        list(&bytes[n..2 * n], &mut out)?;
+        let random = &bytes[n..2 * n];
+        if n % 3 == 0 {
+            list(&spoiled_records(random), &mut out)?;
+        } else {
+            list(random, &mut out)?;
+        }
     }
     Ok(out.flush()?)
+}
+
+/// As many bytes as there are random ones: a job, then operators. One byte is
+/// changed by the random ones where the last record is cut off.
+fn spoiled_records(random: &[u8]) -> Vec<u8> {
+    let n = random.len();
+    let square = |n, x, y| encode(RECTANGLE, &[n, x, x + n / 100, y, y + n / 100]);
+    let disk = encode(ELLIPSE, &[1, 0, 0, 1, 0, 1, 1]);
+    let job = match n / 3 % 3 {
+        0 => [encode(SCALE, &[0]), disk.clone(), disk],
+        1 => [
+            encode(SCALE, &[1]),
+            encode(RECTANGLE, &[2, -2, 3, -1, 2]),
+            encode(ELLIPSE, &[1, 0, 1, 2, 1, 1, 2]),
+        ],
+        _ => [encode(SCALE, &[20]), square(4, 3, -1), square(100, 74, -26)],
+    };
+    let mut records = job.concat();
+    let operators =
+        [encode(OPERATOR, &[0, 0, 0, 1, -1, 1, 1, 0]), encode(OPERATOR, &[0, 0, 0, 1, 0, 1, 0, 2])];
+    let mut last = records.len();
+    for operator in operators.iter().cycle() {
+        if records.len() >= n {
+            break;
+        }
+        records.extend_from_slice(operator);
+        last = records.len();
+    }
+    records.truncate(n);
+    if last != n {
+        if let [x, y, z, half, byte, ..] = *random {
+            let x = usize::from(x) * 65_536 + usize::from(y) * 256 + usize::from(z);
+            let place = if half < 128 { x % 61 } else { x };
+            records[place % n] = byte;
+        }
+    }
+    records
 }
 
 /// Writes what the list program prints for an input.

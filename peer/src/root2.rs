@@ -78,35 +78,40 @@ impl Mul for Root2<i64> {
     }
 }
 
-/// The sign of p + q√2, as −1, 0 or 1, for p and q within ±2^125.
-///
-/// Numbers too wide to be squared are multiplied by 1 + √2, which is
-/// positive. While p and q have opposite signs this makes both smaller or
-/// gives them the same sign.
+/// The sign of p + q√2, as −1, 0 or 1, for every p and q. As t·|t| rises with
+/// t, p is compared with −q√2 by p·|p| and −2·q·|q|.
 #[inline]
-pub fn sign(mut p: i128, mut q: i128) -> i32 {
+pub fn sign(p: i128, q: i128) -> i32 {
     const NARROW: u128 = 1 << 62;
-    while p.unsigned_abs() >= NARROW || q.unsigned_abs() >= NARROW {
-        if p >= 0 && q >= 0 {
-            return 1;
-        }
-        if p <= 0 && q <= 0 {
-            return -1;
-        }
-        (p, q) = (p + 2 * q, p + q);
+    if p.unsigned_abs() < NARROW && q.unsigned_abs() < NARROW {
+        let square = |t: i128| t * t.abs();
+        return square(p).cmp(&(-2 * square(q))) as i32;
     }
-    sign_narrow(p as i64, q as i64)
+    if (p >= 0) == (q >= 0) {
+        return if p >= 0 { 1 } else { -1 };
+    }
+    let larger = square(p.unsigned_abs()).cmp(&doubled(square(q.unsigned_abs()))) as i32;
+    if p >= 0 {
+        larger
+    } else {
+        -larger
+    }
 }
 
-/// The same for p and q within ±2^62. As t·|t| rises with t, p is compared
-/// with −q√2 by p·|p| and −2·q·|q|.
-#[inline]
-fn sign_narrow(p: i64, q: i64) -> i32 {
-    let square = |t: i64| i128::from(t) * i128::from(t.abs());
-    square(p).cmp(&(-2 * square(q))) as i32
+/// The square of a size up to 2^127, as two words of 128 bits, the high one
+/// first.
+fn square(t: u128) -> (u128, u128) {
+    let (high, low) = (t >> 64, t & u128::from(u64::MAX));
+    let middle = high * low;
+    let (word, carry) = (low * low).overflowing_add(middle << 65);
+    (high * high + (middle >> 63) + u128::from(carry), word)
 }
 
-/// The greatest whole number not above v√2, for v within ±2^31.
+fn doubled((high, low): (u128, u128)) -> (u128, u128) {
+    (high << 1 | low >> 127, low << 1)
+}
+
+/// The greatest whole number not above v√2, for v within ±2^60.
 #[inline]
 pub fn floor_root2(v: i64) -> i64 {
     // √2 times 2^64, rounded down.
@@ -114,7 +119,8 @@ pub fn floor_root2(v: i64) -> i64 {
     let size = v.unsigned_abs();
     let guess = ((u128::from(size) * ROOT2) >> 64) as u64;
     let next = guess + 1;
-    let root = guess as i64 + i64::from(next * next <= 2 * size * size);
+    let square = |t: u64| u128::from(t) * u128::from(t);
+    let root = guess as i64 + i64::from(square(next) <= 2 * square(size));
     if v >= 0 {
         root
     } else {

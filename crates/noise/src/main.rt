@@ -1,4 +1,7 @@
-// Random bytes of every length from 0 to 70,000: for each what the list program prints. The expected output is the peer's, from its own parser and its own copy of the bytes.
+// Bytes of every length from 0 to 70,000: for each what the list program prints. The expected output is the peer's, from its own parser and its own copy of the bytes.
+// Of every third length they are the records of a job and operators, mostly with a byte changed, so that lists and all refusals are met; the others are random.
+mod records;
+
 ghost use mathlib.Core.Path.{_≡_};
 ghost use lib.ListN.{length};
 use libc::STDOUT_FILENO;
@@ -39,7 +42,15 @@ fn byte_of(x: u32) -> u8 {
 fn list_all(bytes: &[u8]) {
     let mut n = 0;
     while n <= bytes.len() / 2 {
-        printing::print_list(STDOUT_FILENO, &bytes[n..n + n]);
+        list_one(&bytes[n..n + n]);
         n += 1;
+    }
+}
+
+fn list_one(bytes: &[u8]) {
+    if bytes.len() % 3 == 0 {
+        records::list(bytes);
+    } else {
+        printing::print_list(STDOUT_FILENO, bytes);
     }
 }

@@ -1,0 +1,109 @@
+// Records in place of random bytes, with one of those put among them.
+ghost use mathlib.Core.Path.{_≡_};
+ghost use Prim.Native.Nat.{_+_, _≤_};
+ghost use lib.ListN.{length};
+use libc::STDOUT_FILENO;
+
+// Three jobs: unit disks; a rectangle and an ellipse at scale 1; a point and a small square at scale 20. Then two operators.
+const RECORDS: [u8; 160] = [
+    1, 0, 3, 1, 0, 0, 0, 0, 0, 0, 0, 0, 0, 1, 0, 0, 0, 1, 0, 1, 0, 0, 0, 3, 1, 0, 0, 0, 0, 0, 0, 0, 0, 0, 1, 0, 0, 0, 1, 0, 1, 0, 0, 0,
+    1, 1, 2, 2, 0, 254, 255, 255, 255, 3, 0, 0, 0, 255, 255, 255, 255, 2, 0, 0, 0, 3, 1, 0, 0, 0, 0, 0, 1, 0, 0, 0, 2, 0, 1, 0, 1, 0, 2, 0, 0, 0,
+    1, 20, 2, 4, 0, 3, 0, 0, 0, 3, 0, 0, 0, 255, 255, 255, 255, 255, 255, 255, 255, 2, 100, 0, 74, 0, 0, 0, 75, 0, 0, 0, 230, 255, 255, 255, 231, 255, 255, 255,
+    4, 0, 0, 0, 0, 0, 0, 1, 0, 255, 255, 1, 0, 1, 0, 0, 0, 4, 0, 0, 0, 0, 0, 0, 1, 0, 0, 0, 1, 0, 0, 0, 2, 0,
+];
+
+// Where the records of a job stand, and how many bytes they have.
+struct Head {
+    start: usize,
+    len: usize,
+}
+
+// What the list program prints for as many bytes of records as there are random ones.
+pub fn list(noise: &[u8]) {
+    let n = noise.len();
+    let mut space = buffer();
+    if n <= space.len() {
+        let h = head(n);
+        fill(&mut space, h);
+        spoil(&mut space[..n], h, noise);
+        printing::print_list(STDOUT_FILENO, &space[..n]);
+    }
+}
+
+fn buffer() -> [u8; 70000]
+    ensures { λ r. ⌜ 70000 ≡ length r ⌝ }
+{
+    [0; 70000]
+}
+
+fn head(n: usize) -> Head
+    ensures { λ r. ⌜ r .start + r .len ≤ 126 ⌝ }
+{
+    let t = n / 3 % 3;
+    if t == 0 {
+        return Head { start: 0, len: 44 };
+    }
+    if t == 1 {
+        return Head { start: 44, len: 42 };
+    }
+    Head { start: 86, len: 40 }
+}
+
+// A job, then the two operators again and again.
+fn fill(bytes: &mut [u8], h: Head)
+    requires { ⌜ h .start + h .len ≤ 126 ⌝ }
+{
+    let mut i = 0;
+    while i < bytes.len() {
+        bytes[i] = byte(h, i);
+        i += 1;
+    }
+}
+
+fn byte(h: Head, i: usize) -> u8
+    requires { ⌜ h .start + h .len ≤ 126 ⌝ }
+{
+    if i < h.len {
+        let at = h.start + i;
+        return RECORDS[at];
+    }
+    let at = 126 + (i - h.len) % 34;
+    RECORDS[at]
+}
+
+// One byte changed where the last record is not whole, so that no list becomes long by it.
+fn spoil(bytes: &mut [u8], h: Head, noise: &[u8]) {
+    if noise.len() < 5 {
+        return;
+    }
+    if is_whole(h, bytes.len()) {
+        return;
+    }
+    let x = wide(noise[0]) * 65536 + wide(noise[1]) * 256 + wide(noise[2]);
+    put(bytes, place(x, noise[3]), noise[4]);
+}
+
+fn is_whole(h: Head, n: usize) -> bool {
+    if n < h.len {
+        return false;
+    }
+    (n - h.len) % 17 == 0
+}
+
+// Among the first 61 bytes for half of the random ones.
+fn place(x: usize, b: u8) -> usize {
+    if b < 128 { x % 61 } else { x }
+}
+
+fn put(bytes: &mut [u8], x: usize, b: u8) {
+    let n = bytes.len();
+    if n == 0 {
+        return;
+    }
+    let at = x % n;
+    bytes[at] = b;
+}
+
+fn wide(b: u8) -> usize {
+    b as usize
+}
