@@ -1,6 +1,6 @@
 // Records in place of random bytes, with one of those put among them.
 ghost use mathlib.Core.Path.{_≡_};
-ghost use Prim.Native.Nat.{_+_, _≤_};
+ghost use Prim.Native.Nat.{_+_, _<_, _≤_};
 ghost use lib.ListN.{length};
 use libc::STDOUT_FILENO;
 
@@ -13,20 +13,28 @@ const RECORDS: [u8; 160] = [
 ];
 
 // Where the records of a job stand, and how many bytes they have.
-struct Head {
+struct Job {
     start: usize,
     len: usize,
 }
 
 // What the list program prints for as many bytes of records as there are random ones.
 pub fn list(noise: &[u8]) {
-    let n = noise.len();
     let mut space = buffer();
-    if n <= space.len() {
-        let h = head(n);
-        fill(&mut space, h);
-        spoil(&mut space[..n], h, noise);
-        printing::print_list(STDOUT_FILENO, &space[..n]);
+    list_in(&mut space, noise);
+}
+
+fn list_in(space: &mut [u8], noise: &[u8]) {
+    let n = noise.len();
+    let h = job_for(n);
+    fill(space, h);
+    spoil(space, n, h, noise);
+    print(space, n);
+}
+
+fn print(bytes: &[u8], n: usize) {
+    if n <= bytes.len() {
+        printing::print_list(STDOUT_FILENO, &bytes[..n]);
     }
 }
 
@@ -36,21 +44,21 @@ fn buffer() -> [u8; 70000]
     [0; 70000]
 }
 
-fn head(n: usize) -> Head
+fn job_for(n: usize) -> Job
     ensures { λ r. ⌜ r .start + r .len ≤ 126 ⌝ }
 {
     let t = n / 3 % 3;
     if t == 0 {
-        return Head { start: 0, len: 44 };
+        return Job { start: 0, len: 44 };
     }
     if t == 1 {
-        return Head { start: 44, len: 42 };
+        return Job { start: 44, len: 42 };
     }
-    Head { start: 86, len: 40 }
+    Job { start: 86, len: 40 }
 }
 
 // A job, then the two operators again and again.
-fn fill(bytes: &mut [u8], h: Head)
+fn fill(bytes: &mut [u8], h: Job)
     requires { ⌜ h .start + h .len ≤ 126 ⌝ }
 {
     let mut i = 0;
@@ -60,7 +68,7 @@ fn fill(bytes: &mut [u8], h: Head)
     }
 }
 
-fn byte(h: Head, i: usize) -> u8
+fn byte(h: Job, i: usize) -> u8
     requires { ⌜ h .start + h .len ≤ 126 ⌝ }
 {
     if i < h.len {
@@ -71,19 +79,19 @@ fn byte(h: Head, i: usize) -> u8
     RECORDS[at]
 }
 
-// One byte changed where the last record is not whole, so that no list becomes long by it.
-fn spoil(bytes: &mut [u8], h: Head, noise: &[u8]) {
+// One of the first n bytes changed where the last record is not whole, so that no list becomes long by it.
+fn spoil(bytes: &mut [u8], n: usize, h: Job, noise: &[u8]) {
     if noise.len() < 5 {
         return;
     }
-    if is_whole(h, bytes.len()) {
+    if is_whole(h, n) {
         return;
     }
     let x = wide(noise[0]) * 65536 + wide(noise[1]) * 256 + wide(noise[2]);
-    put(bytes, place(x, noise[3]), noise[4]);
+    put(bytes, n, place(x, noise[3]), noise[4]);
 }
 
-fn is_whole(h: Head, n: usize) -> bool {
+fn is_whole(h: Job, n: usize) -> bool {
     if n < h.len {
         return false;
     }
@@ -95,15 +103,18 @@ fn place(x: usize, b: u8) -> usize {
     if b < 128 { x % 61 } else { x }
 }
 
-fn put(bytes: &mut [u8], x: usize, b: u8) {
-    let n = bytes.len();
+fn put(bytes: &mut [u8], n: usize, x: usize, b: u8) {
     if n == 0 {
         return;
     }
     let at = x % n;
-    bytes[at] = b;
+    if at < bytes.len() {
+        bytes[at] = b;
+    }
 }
 
-fn wide(b: u8) -> usize {
+fn wide(b: u8) -> usize
+    ensures { λ r. ⌜ r < 256 ⌝ }
+{
     b as usize
 }

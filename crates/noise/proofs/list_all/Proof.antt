@@ -1,6 +1,5 @@
 -- `list_all` is safe and ends: 2n is at most the length. Assumes nothing.
 use Prim.Native.Nat.{suc, _-_, _/_}
-use native.Mathlib.Omega.{arith}
 use lib.ListN.{length}
 use borrow.Author.Needs.{needs}
 use Rattle.noise.proofs.list_all.Statement.{statement}
@@ -15,20 +14,20 @@ abbrev μ-loop : tie.MeasureT-loop
 loop-holds : tie.Need-loop-holds Inv-loop μ-loop
 loop-holds c = search needs
 
-add-print-list : tie.Need-add-print-list Inv-loop μ-loop
-add-print-list c = search needs
+add-list-one : tie.Need-add-list-one Inv-loop μ-loop
+add-list-one c = search needs
 
-sub-print-list : tie.Need-sub-print-list Inv-loop μ-loop
-sub-print-list c = search needs
+sub-list-one : tie.Need-sub-list-one Inv-loop μ-loop
+sub-list-one c = search needs
 
-part-print-list-start : tie.Need-part-print-list-start Inv-loop μ-loop
-part-print-list-start c = search needs
+part-list-one-start : tie.Need-part-list-one-start Inv-loop μ-loop
+part-list-one-start c = search needs
 
-part-print-list-end : tie.Need-part-print-list-end Inv-loop μ-loop
-part-print-list-end c = search needs
+part-list-one-end : tie.Need-part-list-one-end Inv-loop μ-loop
+part-list-one-end c = search needs
 
-print-list-requires : tie.Need-print-list-requires Inv-loop μ-loop
-print-list-requires c κs = search needs
+list-one-requires : tie.Need-list-one-requires Inv-loop μ-loop
+list-one-requires c κs = search needs
 
 add-n : tie.Need-add-n Inv-loop μ-loop
 add-n c = search needs
@@ -49,11 +48,11 @@ list-all-spec =
     Inv-loop
     μ-loop
     loop-holds
-    add-print-list
-    sub-print-list
-    part-print-list-start
-    part-print-list-end
-    print-list-requires
+    add-list-one
+    sub-list-one
+    part-list-one-start
+    part-list-one-end
+    list-one-requires
     add-n
     loop-less
     loop-again
