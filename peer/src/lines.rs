@@ -20,7 +20,7 @@ pub struct Lines<W: Write> {
 
 impl<W: Write> Lines<W> {
     pub fn new(out: W, k: u32) -> Self {
-        let tails = (0..=k).map(|e| format!(" {} {}\n", e, 2 * e)).collect();
+        let tails = (0..=k).map(|e| format!(" {} {}\n", e, (2 * e).saturating_sub(2))).collect();
         Lines {
             out,
             k,

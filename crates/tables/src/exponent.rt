@@ -1,4 +1,4 @@
-// Rows `k a b c d e`.
+// Rows `k a b c d e` and `k a b c d e m`.
 use crate::row;
 use crate::row::Four;
 use crate::row::Tally;
@@ -8,13 +8,34 @@ pub fn compare(s: &[u8]) -> Tally {
     let mut at = 0;
     while at < s.len() {
         let row = row::row_at(s, at);
-        t = t.with(row.count == 6 && right(row.numbers));
+        t = t.with(right(row.count, row.numbers));
         at = row::after(s, at, row.next);
     }
     t
 }
 
-fn right(n: [i64; 64]) -> bool {
+fn right(count: usize, n: [i64; 64]) -> bool {
+    if count == 6 {
+        return is_exponent(n);
+    }
+    if count == 7 {
+        return is_exponent(n) && is_pulse_count(n[5], n[6]);
+    }
+    false
+}
+
+fn is_pulse_count(e: i64, m: i64) -> bool {
+    if !integers::is_nonneg(e) {
+        return false;
+    }
+    let e = integers::abs(e);
+    if 255 < e {
+        return false;
+    }
+    ring::pulse_count(e as u32) == integers::abs(m)
+}
+
+fn is_exponent(n: [i64; 64]) -> bool {
     if !integers::is_nonneg(n[0]) {
         return false;
     }
