@@ -12,8 +12,8 @@ use lib.Seq.{drop-drop}
 use Rattle.ranks.specs.Rest.{rest, Place, at, ended, isEnded, isNil, placeOf, ended-nil, leftAt, left-place}
 use Rattle.calls.specs.Session.{World, Reading, refuse, accept, Stage, part, whole}
 use Rattle.calls.specs.Session.{Call, reading, handOut, rewind, clear, plain, imageOf}
-use Rattle.calls.specs.Session.{full, space, Session, early, walking, fresh, Outcome, joined, remembered, given, step, answers}
-use Rattle.calls.specs.Rules.{isZero, verdict, Tally, Ruling, begin, join, pass, deal, rule, verdicts}
+use Rattle.calls.specs.Session.{full, space, Session, early, walking, fresh, Outcome, joined, remembered, given, step, answers, after}
+use Rattle.calls.specs.Rules.{isZero, verdict, Tally, Ruling, begin, join, pass, deal, rule, verdicts, tallied}
 
 take-min : (n : ℕ) (l : List ℕ) → take (min n (length l)) l ≡ take n l
 take-min zero l = rw zero-min
@@ -90,3 +90,20 @@ module _ (W : World) where
   -- "Which of its calls are refused, and each hand-out's count, end and points, must be what these rules give from the calls' arguments alone"
   pub whole-list : (cs : List (Call W)) → map (verdict W) (answers W (fresh W) cs) ≡ verdicts W (begin W) cs
   whole-list cs = all-agree cs (soon none)
+
+  -- ---- the job of a session is the one that the rules give
+  abbrev pub jobOf : Session W → Stage Parts Job
+  jobOf (early p) = part p
+  jobOf (walking j w o) = whole j
+
+  all-follow : (cs : List (Call W)) {s : Session W} {t : Tally W} → Follows s t → Follows (after W s cs) (tallied W t cs)
+  all-follow [] f = f
+  all-follow (c ∷ cs) f = all-follow cs (agrees c f .next)
+
+  same-job : {s : Session W} {t : Tally W} → Follows s t → t .job ≡ jobOf s
+  same-job (soon p) = refl
+  same-job (along j w o n h e) = refl
+
+  -- "An accepted record other than an operator joins the job"
+  pub whole-job : (cs : List (Call W)) → tallied W (begin W) cs .job ≡ jobOf (after W (fresh W) cs)
+  whole-job cs = same-job (all-follow cs (soon none))

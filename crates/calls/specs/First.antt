@@ -29,7 +29,7 @@ module _ (W : World) where
   spaces-more (y ∷ xs) x = omega (arith, spaces-more xs x)
 
   -- a session after hand-outs of the points ps, which had space for k
-  data Holds : Session W → List ℤ → ℕ → Type 0 where
+  pub data Holds : Session W → List ℤ → ℕ → Type 0 where
     soon : (p : Parts) → Holds (early p) [] 0
     along : (j : Job) (w : Place) (o : Operator) (k : ℕ) → leftAt (test j) top w ≡ drop k (full W j)
         → Holds (walking j w o) (flat coords (take k (full W j))) k
@@ -90,7 +90,7 @@ module _ (W : World) where
       let b = restarts W c (x .1) in
       all-hold cs (cond b [] (seen ++ (x ∷ []))) (adds b seen x (holds c f))
 
-  holds-since : (cs : List (Call W)) → Holds (after W (fresh W) cs) (points W (since W cs)) (spaces W (since W cs))
+  pub holds-since : (cs : List (Call W)) → Holds (after W (fresh W) cs) (points W (since W cs)) (spaces W (since W cs))
   holds-since cs = all-hold cs [] (soon none)
 
   first-ones : {s : Session W} {ps : List ℤ} {k : ℕ} → Holds s ps k → ps ≡ flat coords (take k (fullOf W s))

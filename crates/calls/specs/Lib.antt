@@ -8,6 +8,7 @@ pub mod Rules
 pub mod Agree
 pub mod Since
 pub mod First
+pub mod End
 pub mod Refused
 pub mod Operators
 pub mod Remembered

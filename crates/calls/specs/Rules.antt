@@ -93,3 +93,8 @@ module _ (W : World) where
   abbrev pub verdicts : Tally → List (Call W) → List Verdict
   verdicts t [] = []
   verdicts t (c ∷ cs) = (rule c t) .0 ∷ verdicts ((rule c t) .1) cs
+
+  -- what the rules know after a list of calls
+  abbrev pub tallied : Tally → List (Call W) → Tally
+  tallied t [] = t
+  tallied t (c ∷ cs) = tallied ((rule c t) .1) cs

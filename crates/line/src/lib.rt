@@ -4,7 +4,7 @@ ghost use mathlib.Core.Bool.{true};
 ghost use Prim.Native.Nat.{_+_, _<_, _≤_};
 ghost use lib.ListN.{length};
 ghost use lib.Seq.{sets};
-ghost use Rattle.line.specs.Line.{accepted, within, inRange, span, coordinate, pairOf, answerOf, sliceOf};
+ghost use Rattle.line.specs.Line.{accepted, within, inRange, span, coordinate, pairOf, Answers};
 ghost use Rattle.line.specs.Start.{rankOf};
 ghost use Rattle.line.specs.Next.{Near, Inside};
 ghost use Rattle.line.specs.Given.{Given};
@@ -36,7 +36,7 @@ pub enum Answer {
 
 // The pairs (a, b) with a + b√2 in the first interval and a − b√2 in the second, strictly after a place, as many as there is space for.
 pub fn pairs(first: Interval, second: Interval, place: Place, out: &mut [i32]) -> Answer
-    ensures { λ r. ⌜ (r ≡ answerOf first second place (now (out .entry))) × (now (out .exit) ≡ sliceOf first second place (now (out .entry))) ⌝ }
+    ensures { λ r. ⌜ Answers first second place (now (out .entry)) r (now (out .exit)) ⌝ }
 {
     if in_range(first) {
         if in_range(second) {

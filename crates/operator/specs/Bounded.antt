@@ -1,4 +1,4 @@
--- Entries of a size at which a product of two matrices stays within 64 bits: those of every operator.
+-- Entries of a size at which a product of two matrices stays within 64 bits: those of every operator; and the sizes in an image.
 use mathlib.Core.Path.{_≡_}
 use Prim.Native.Nat.{ℕ, zero, suc, _+_, _^_, _≤_, _<_}
 use native.Mathlib.Omega.{arith}
@@ -15,12 +15,12 @@ use Rattle.operator.specs.declared.Entry.{Entry}
 use Rattle.operator.specs.Matrix.{Matrix, at, pairs, matrixOf}
 use Rattle.operator.specs.Halves.{size-half, half-size}
 
-abbrev pub Bounded : ℤ → Type 0
-Bounded z = natAbs z ≤ 2 ^ 16
+abbrev pub Bounded : ℕ → ℤ → Type 0
+Bounded k z = natAbs z ≤ 2 ^ k
 
 pub record BoundedEntry (e : Entry) : Type 0 where
-  pub p : Bounded (e .p)
-  pub q : Bounded (e .q)
+  pub p : Bounded 30 (e .p)
+  pub q : Bounded 30 (e .q)
 
 abbrev pub BoundedMatrix : Matrix → Type 0
 BoundedMatrix m = (i j : ℕ) → i < 2 → j < 2 → BoundedEntry (at m i j)
@@ -28,8 +28,8 @@ BoundedMatrix m = (i j : ℕ) → i < 2 → j < 2 → BoundedEntry (at m i j)
 pub neg-bounded : (x y : Entry) → y ≡ record { p = negℤ (x .p); q = negℤ (x .q) } → BoundedEntry x → BoundedEntry y
 neg-bounded x y e h = rw e (record { p = rw (size-neg (x .p)) (h .p); q = rw (size-neg (x .q)) (h .q) })
 
-pub dot-size : (x y u w : ℤ) → Bounded x → Bounded y → Bounded u → Bounded w → natAbs (x *ℤ y +ℤ u *ℤ w) ≤ 2 ^ 33
-dot-size x y u w hx hy hu hw = omega (arith, size-+ (x *ℤ y) (u *ℤ w), size-*≤ x y 65536 65536 hx hy, size-*≤ u w 65536 65536 hu hw)
+pub dot-size : (x y u w : ℤ) → Bounded 30 x → Bounded 30 y → Bounded 30 u → Bounded 30 w → natAbs (x *ℤ y +ℤ u *ℤ w) ≤ 2 ^ 61
+dot-size x y u w hx hy hu hw = omega (arith, size-+ (x *ℤ y) (u *ℤ w), size-*≤ x y (2 ^ 30) (2 ^ 30) hx hy, size-*≤ u w (2 ^ 30) (2 ^ 30) hu hw)
 
 -- the parts of x y + u w, and the half on the way
 pub pairs-fit : (x y u w : Entry) → BoundedEntry x → BoundedEntry y → BoundedEntry u → BoundedEntry w →
@@ -60,7 +60,7 @@ pub record RowFits (p q r s : ℤ) (v : WidePoint) : Type 0 where
   pub three : SFits w64 (p *ℤ v .d +ℤ q *ℤ v .b +ℤ r *ℤ v .c)
   pub four : SFits w64 (p *ℤ v .d +ℤ q *ℤ v .b +ℤ r *ℤ v .c +ℤ s *ℤ v .a)
 
-pub row-fits : (p q r s : ℤ) (v : WidePoint) → SFits w16 p → SFits w16 q → Bounded r → Bounded s → Near v → RowFits p q r s v
+pub row-fits : (p q r s : ℤ) (v : WidePoint) → SFits w16 p → SFits w16 q → Bounded 16 r → Bounded 16 s → Near v → RowFits p q r s v
 row-fits p q r s v hp hq hr hs n =
     let pd = size-*≤ p (v .d) 32768 (2 ^ 40) (fits→size hp) (n .d) in
     let qb = size-*≤ q (v .b) 32768 (2 ^ 40) (fits→size hq) (n .b) in
@@ -71,7 +71,7 @@ row-fits p q r s v hp hq hr hs n =
     let four = size-+ (p *ℤ v .d +ℤ q *ℤ v .b +ℤ r *ℤ v .c) (s *ℤ v .a) in
     record { pd = size→fits (omega arith); qb = size→fits (omega arith); rc = size→fits (omega arith); sa = size→fits (omega arith); two = size→fits (omega arith); three = size→fits (omega arith); four = size→fits (omega arith) }
 
-pub halves-bounded : (x y z w : ℤ) → SFits w16 x → SFits w16 y → SFits w16 z → SFits w16 w → Bounded (half (x +ℤ y +ℤ z +ℤ w)) × Bounded (half (x +ℤ y -ℤ z -ℤ w))
+pub halves-bounded : (x y z w : ℤ) → SFits w16 x → SFits w16 y → SFits w16 z → SFits w16 w → Bounded 16 (half (x +ℤ y +ℤ z +ℤ w)) × Bounded 16 (half (x +ℤ y -ℤ z -ℤ w))
 halves-bounded x y z w hx hy hz hw =
     let sx = fits→size hx in
     let sy = fits→size hy in

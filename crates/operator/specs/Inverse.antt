@@ -1,4 +1,6 @@
 -- The inverse of a special grid operator, and the composition of two operators: document 01, "Operators"; 000, equations 49 to 51.
+use mathlib.Core.Path.{_≡_, refl, _∙_, ap}
+use Prim.Native.Nat.{ℕ}
 use lib.IntN.{ℤ, negℤ, _+ℤ_, _-ℤ_, _*ℤ_}
 use Rattle.integers.specs.Parity.{half}
 use Rattle.operator.specs.declared.Operator.{Operator}
@@ -7,7 +9,7 @@ use Rattle.operator.specs.declared.Check.the-variants.{Special, OutOfRan
 use Rattle.operator.specs.declared.Inverse.{Inverse}
 use Rattle.operator.specs.declared.Inverse.the-variants.{Operator as Undo, Refused}
 use Rattle.ring.specs.declared.Point.{Point}
-use Rattle.operator.specs.Operator.{checkOf, detWhole, imageOf}
+use Rattle.operator.specs.Operator.{refusal, checkOf, refusalOf, detWhole, imageOf}
 
 -- the inverse for determinant 1: equations 50 and 51
 unfoldable pub adjugate : Operator → Operator
@@ -35,6 +37,26 @@ answer NotSpecial h = Refused NotSpecial
 -- the inverse of an operator that passes the test: for determinant −1 all is times −1, so all is times the determinant
 unfoldable pub inverseOf : Operator → Inverse
 inverseOf g = answer (checkOf g) (times (detWhole g) (adjugate g))
+
+-- document 01's number of each case: 0 for an inverse, else the refusal of the operator
+abbrev pub number : Inverse → ℕ
+number (Undo h) = 0
+number (Refused c) = refusal c
+
+-- an answer: the case, and its number, which is that of the operator's test
+pub record Inverts (g : Operator) (r : Inverse) : Type 0 where
+  pub inverse : r ≡ inverseOf g
+  pub value : number r ≡ refusalOf g
+
+answer-number : (c : Check) (h : Operator) → number (answer c h) ≡ refusal c
+answer-number Special h = refl
+answer-number OutOfRange h = refl
+answer-number OddParity h = refl
+answer-number NotSpecial h = refl
+
+pub inverts : {g : Operator} {r : Inverse} → r ≡ inverseOf g → Inverts g r
+unfolding inverseOf
+inverts {g} e = record { inverse = e; value = ap number e ∙ answer-number (checkOf g) (times (detWhole g) (adjugate g)) }
 
 -- G(1) and G(i)
 abbrev pub one : Operator → Point

@@ -12,3 +12,4 @@ pub mod Adjugate
 pub mod Even
 pub mod Halves
 pub mod Bounded
+pub mod Within

@@ -1,10 +1,13 @@
 -- An operator as a two-by-two matrix of numbers p + q/√2: document 01, "Operators"; 000, equation 37.
 use mathlib.Core.Path.{_≡_}
+use mathlib.Core.Bool.{Bool, cond}
 use mathlib.Core.List.{List, [], _∷_}
-use Prim.Native.Nat.{ℕ}
-use lib.IntN.{ℤ, pos, _+ℤ_, _-ℤ_, _*ℤ_}
+use Prim.Native.Nat.{ℕ, _^_}
+use lib.Dec.{leb}
+use lib.IntN.{ℤ, pos, natAbs, _+ℤ_, _-ℤ_, _*ℤ_}
 use lib.ListN.{getD}
 use Rattle.integers.specs.Parity.{half}
+use Rattle.ranges.specs.Ranges.{both}
 use Rattle.operator.specs.declared.Operator.{Operator}
 use Rattle.operator.specs.declared.Entry.{Entry}
 
@@ -12,9 +15,13 @@ use Rattle.operator.specs.declared.Entry.{Entry}
 abbrev pub Matrix : Type 0
 Matrix = List (List Entry)
 
+-- 0
+abbrev pub none : Entry
+none = record { p = pos 0; q = pos 0 }
+
 -- the entry in row i and column j
 abbrev pub at : Matrix → ℕ → ℕ → Entry
-at m i j = getD (getD m i []) j (record { p = pos 0; q = pos 0 })
+at m i j = getD (getD m i []) j none
 
 -- rows (d + (c − a)/√2, d' + (c' − a')/√2) and (b + (c + a)/√2, b' + (c' + a')/√2): equation 37
 unfoldable pub matrixOf : Operator → Matrix
@@ -46,6 +53,19 @@ crossed x y x′ y′ = record {
 
 unfoldable pub determinantOf : Matrix → Entry
 determinantOf m = crossed (at m 0 0) (at m 1 1) (at m 0 1) (at m 1 0)
+
+-- ---- any matrices: entries up to 2^30 in size, as those of every operator are, have products within 64 bits; a larger one has the product and the determinant 0
+abbrev pub entryWithin : Entry → Bool
+entryWithin e = both (leb (natAbs (e .p)) (2 ^ 30)) (leb (natAbs (e .q)) (2 ^ 30))
+
+unfoldable pub isWithin : Matrix → Bool
+isWithin m = both (both (entryWithin (at m 0 0)) (entryWithin (at m 0 1))) (both (entryWithin (at m 1 0)) (entryWithin (at m 1 1)))
+
+unfoldable pub productWithin : Matrix → Matrix → Matrix
+productWithin m n = cond (both (isWithin m) (isWithin n)) (productOf m n) ((none ∷ none ∷ []) ∷ (none ∷ none ∷ []) ∷ [])
+
+unfoldable pub determinantWithin : Matrix → Entry
+determinantWithin m = cond (isWithin m) (determinantOf m) none
 
 pub ext : {x y : Entry} → x .p ≡ y .p → x .q ≡ y .q → x ≡ y
 ext e f = λ i. record { p = e i; q = f i }

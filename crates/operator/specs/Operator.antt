@@ -1,5 +1,5 @@
 -- Grid operators: document 01, "Operators"; 000, Lemma 3.8 and equations 45 to 48.
-use mathlib.Core.Path.{_≡_}
+use mathlib.Core.Path.{_≡_, ap}
 use mathlib.Core.Bool.{Bool, true, false}
 use Prim.Native.Nat.{ℕ}
 use lib.IntN.{ℤ, pos, negsuc, negℤ, _+ℤ_, _-ℤ_, _*ℤ_}
@@ -64,6 +64,18 @@ pick false x y = y
 -- refusals in document 01's order: 4, then 6 for an odd parity sum, then 7 for an even one that isn't special
 unfoldable pub checkOf : Operator → Check
 checkOf g = pick (inRange g) (pick (evenParity g) (pick (special g) Special NotSpecial) OddParity) OutOfRange
+
+-- the number that the test of an operator comes to
+abbrev pub refusalOf : Operator → ℕ
+refusalOf g = refusal (checkOf g)
+
+-- an answer of the test: the case, and its number
+pub record Tests (g : Operator) (r : Check) : Type 0 where
+  pub check : r ≡ checkOf g
+  pub value : refusal r ≡ refusalOf g
+
+pub tests : {g : Operator} {r : Check} → r ≡ checkOf g → Tests g r
+tests e = record { check = e; value = ap refusal e }
 
 -- a point of four 64-bit numbers as a point
 abbrev pub wide : WidePoint → Point

@@ -2,17 +2,21 @@
 ghost use mathlib.Core.Path.{_≡_};
 ghost use Prim.Native.Nat.{_≤_};
 ghost use lib.IntN.{natAbs, pos, _*ℤ_};
-ghost use Rattle.operator.specs.Operator.{identity, inRange, evenParity, special, checkOf, imageOf, wide};
+ghost use Rattle.operator.specs.Operator.{identity, inRange, evenParity, special, Tests, imageOf, wide};
 ghost use Rattle.operator.specs.Matrix.{matrixOf, productOf, determinantOf};
-ghost use Rattle.operator.specs.Inverse.{adjugate, times, inverseOf};
+ghost use Rattle.operator.specs.Inverse.{adjugate, times, Inverts};
 ghost use Rattle.operator.specs.Accepted.{Small};
 ghost use Rattle.operator.specs.Bounded.{Near};
 use ring::Point;
 
+mod bounded;
 mod conditions;
 mod matrix;
 mod rows;
 mod sums;
+
+pub use bounded::determinant;
+pub use bounded::product;
 
 // G(1) as (a, b, c, d) and G(i) as document 01's (a', b', c', d').
 pub struct Operator {
@@ -75,7 +79,7 @@ impl Operator {
 
     // The test: ranges, then parity, then the determinant.
     pub fn check(self) -> Check
-        ensures { λ r. ⌜ r ≡ checkOf self ⌝ }
+        ensures { λ r. ⌜ Tests self r ⌝ }
     {
         if !self.in_range() {
             return Check::OutOfRange;
@@ -174,7 +178,7 @@ impl Operator {
 
     // The inverse, for determinant 1 and −1: 000, equations 49 to 51.
     pub fn inverse(self) -> Inverse
-        ensures { λ r. ⌜ r ≡ inverseOf self ⌝ }
+        ensures { λ r. ⌜ Inverts self r ⌝ }
     {
         let k = self.check();
         match k {

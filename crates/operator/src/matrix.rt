@@ -70,7 +70,7 @@ fn pairs(x: Entry, y: Entry, u: Entry, w: Entry) -> Entry
 }
 
 fn dot(x: i64, y: i64, u: i64, w: i64) -> i64
-    requires { ⌜ Bounded x × Bounded y × Bounded u × Bounded w ⌝ }
+    requires { ⌜ Bounded 30 x × Bounded 30 y × Bounded 30 u × Bounded 30 w ⌝ }
     ensures { λ r. ⌜ r ≡ x *ℤ y +ℤ u *ℤ w ⌝ }
 {
     x * y + u * w

@@ -30,7 +30,7 @@ pub(crate) fn minus(p: i16, q: i16, x: i16, y: i16, z: i16, w: i16, v: WidePoint
 }
 
 fn row(p: i16, q: i16, r: i32, s: i32, v: WidePoint) -> i64
-    requires { ⌜ Bounded r × Bounded s × Near v ⌝ }
+    requires { ⌜ Bounded 16 r × Bounded 16 s × Near v ⌝ }
     ensures { λ u. ⌜ u ≡ p *ℤ v .d +ℤ q *ℤ v .b +ℤ r *ℤ v .c +ℤ s *ℤ v .a ⌝ }
 {
     p as i64 * v.d + q as i64 * v.b + r as i64 * v.c + s as i64 * v.a

@@ -53,7 +53,7 @@ fn in_force(job: Job, caller: Operator) -> Turn
     ensures { λ r. ⌜ Undoing r ⌝ }
 {
     if is_identity(caller) {
-        return reduce::reduced(job);
+        return usable(propose(job));
     }
     reduce::chosen(job, usable(caller))
 }

@@ -12,6 +12,7 @@ use crate::generators::sending;
 use crate::generators::turned;
 use crate::image::imaginary_strips;
 use crate::image::real_strips;
+use crate::propose;
 use crate::strips::Strips;
 use crate::units;
 use crate::usable;
@@ -125,7 +126,7 @@ pub(crate) fn chosen(job: Job, g: Turn) -> Turn
     if m.size < LARGE {
         return g;
     }
-    let r = better(measured(job, reduced(job)), m);
+    let r = better(measured(job, usable(propose(job))), m);
     r.turn
 }
 

@@ -1,5 +1,5 @@
 -- One reading: document 01, "Job records" and "Refusals that come from the input". It takes one record from the front of the bytes, or refuses it.
-use mathlib.Core.Path.{_≡_, refl}
+use mathlib.Core.Path.{_≡_, refl, ap}
 use mathlib.Core.Bool.{Bool, true, false}
 use mathlib.Core.List.{List, [], _∷_}
 use Prim.Native.Nat.{ℕ, _-_, _<_, _≤_}
@@ -180,6 +180,23 @@ kindReading k body t = admitted (admissionOf (isKnown k) (inTurn k t) (ltb (leng
 unfoldable pub readingOf : List ℕ → Turn → Reading
 readingOf [] t = Refused NoKind
 readingOf (b ∷ body) t = kindReading (kindOf b) body t
+
+-- document 01's values of each case: the refusal's number, 0 where there is none, and the bytes taken. "A refused reading takes 0 bytes"
+pub record Values : Type 0 where
+  pub refusal : ℕ
+  pub taken : ℕ
+
+abbrev pub valuesOf : Reading → Values
+valuesOf (Accepted x n) = record { refusal = 0; taken = n }
+valuesOf (Refused f) = record { refusal = number f; taken = 0 }
+
+-- an answer: the case, and its values
+pub record Reads (bytes : List ℕ) (t : Turn) (r : Reading) : Type 0 where
+  pub reading : r ≡ readingOf bytes t
+  pub values : valuesOf r ≡ valuesOf (readingOf bytes t)
+
+pub reads : {bytes : List ℕ} {t : Turn} {r : Reading} → r ≡ readingOf bytes t → Reads bytes t r
+reads e = record { reading = e; values = ap valuesOf e }
 
 -- ---- what the code meets, step by step
 pub scale-in : (s : List ℕ) → leb (getD s 0 0) Reg.topScale ≡ true → scaleOf s ≡ Accepted (Rec.Scale (getD s 0 0)) 2

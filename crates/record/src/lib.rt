@@ -6,7 +6,7 @@ ghost use lib.ListN.{length};
 ghost use Rattle.region.specs.Region.{checkOf as regionCheck};
 ghost use Rattle.operator.specs.Operator.{checkOf as operatorCheck};
 ghost use Rattle.record.specs.Record.{number as numberOf};
-ghost use Rattle.record.specs.Record.{readingOf, admissionOf, kindOf, isKnown, inTurn, isScale, isRegion, isOperators, bodyLength, bodyOf, scaleOf, rectangleOf, ellipseOf, operatorOf, regionReading, operatorReading};
+ghost use Rattle.record.specs.Record.{Reads, admissionOf, kindOf, isKnown, inTurn, isScale, isRegion, isOperators, bodyLength, bodyOf, scaleOf, rectangleOf, ellipseOf, operatorOf, regionReading, operatorReading};
 use operator::Operator;
 use region::Ellipse;
 use region::Rectangle;
@@ -84,7 +84,7 @@ enum Admission {
 
 // One reading.
 pub fn read(bytes: &[u8], turn: Turn) -> Reading
-    ensures { λ r. ⌜ r ≡ readingOf (now (bytes .entry)) turn ⌝ }
+    ensures { λ r. ⌜ Reads (now (bytes .entry)) turn r ⌝ }
 {
     if bytes.len() == 0 {
         return Reading::Refused(Refusal::NoKind);

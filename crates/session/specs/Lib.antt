@@ -5,3 +5,6 @@ pub mod Wide
 pub mod Image
 pub mod Calls
 pub mod Remembered
+pub mod Run
+pub mod RunCalls
+pub mod RunWalk

@@ -6,3 +6,4 @@ pub mod Full
 pub mod Search
 pub mod Row
 pub mod Hand
+pub mod Count

@@ -16,7 +16,7 @@ enum-told : tie.Need-enum-told
 enum-told c = search needs
 
 returns : tie.Need-returns
-returns c = record { undone = sym (c .before .before .before .inverse .ensures) ∙ c .before .i .given .1 }
+returns c = record { undone = sym (c .before .before .before .inverse .ensures .inverse) ∙ c .before .i .given .1 }
 
 -- the identity is its own inverse
 identity-undone : inverseOf identity ≡ Undo identity

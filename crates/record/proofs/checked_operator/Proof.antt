@@ -19,16 +19,16 @@ enum-told-4 : tie.Need-enum-told-4
 enum-told-4 c = search needs
 
 returns : tie.Need-returns
-returns c = rw (sym (c .before .before .check .ensures) ∙ c .enum-told .given .1) refl
+returns c = rw (sym (c .before .before .check .ensures .check) ∙ c .enum-told .given .1) refl
 
 returns-2 : tie.Need-returns-2
-returns-2 c = rw (sym (c .before .before .check .ensures) ∙ c .enum-told2 .given .1) refl
+returns-2 c = rw (sym (c .before .before .check .ensures .check) ∙ c .enum-told2 .given .1) refl
 
 returns-3 : tie.Need-returns-3
-returns-3 c = rw (sym (c .before .before .check .ensures) ∙ c .enum-told3 .given .1) refl
+returns-3 c = rw (sym (c .before .before .check .ensures .check) ∙ c .enum-told3 .given .1) refl
 
 returns-4 : tie.Need-returns-4
-returns-4 c = rw (sym (c .before .before .check .ensures) ∙ c .enum-told4 .given .1) refl
+returns-4 c = rw (sym (c .before .before .check .ensures .check) ∙ c .enum-told4 .given .1) refl
 
 pub checked-operator-spec : {M : Type 1} → statement M
 checked-operator-spec =

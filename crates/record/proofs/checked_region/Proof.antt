@@ -16,13 +16,13 @@ enum-told-3 : tie.Need-enum-told-3
 enum-told-3 c = search needs
 
 returns : tie.Need-returns
-returns c = rw (sym (c .before .before .check .ensures) ∙ c .enum-told .given .1) refl
+returns c = rw (sym (c .before .before .check .ensures .check) ∙ c .enum-told .given .1) refl
 
 returns-2 : tie.Need-returns-2
-returns-2 c = rw (sym (c .before .before .check .ensures) ∙ c .enum-told2 .given .1) refl
+returns-2 c = rw (sym (c .before .before .check .ensures .check) ∙ c .enum-told2 .given .1) refl
 
 returns-3 : tie.Need-returns-3
-returns-3 c = rw (sym (c .before .before .check .ensures) ∙ c .enum-told3 .given .1) refl
+returns-3 c = rw (sym (c .before .before .check .ensures .check) ∙ c .enum-told3 .given .1) refl
 
 pub checked-region-spec : {M : Type 1} → statement M
 checked-region-spec =

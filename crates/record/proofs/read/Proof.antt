@@ -9,7 +9,7 @@ use borrow.Author.Needs.{needs}
 use borrow.Author.Tests.{ltb-false}
 use Rattle.record.specs.declared.Kind.{Kind}
 use Rattle.record.specs.declared.Admission.{Admission}
-use Rattle.record.specs.Record.{readingOf, isKnown, inTurn, bodyLength, bodyOf, admissionOf, admitted, reading-none, reading-admitted, whole-long}
+use Rattle.record.specs.Record.{readingOf, reads, isKnown, inTurn, bodyLength, bodyOf, admissionOf, admitted, reading-none, reading-admitted, whole-long}
 use Rattle.record.proofs.read.Statement.{statement}
 use Rattle.record.proofs.read.Tie as tie
 
@@ -42,7 +42,7 @@ module _ (c : tie.After-admit) where
   found a e = is ∙ ap (λ b. admitted b (bodyOf kind (drop 1 list))) e
 
 returns : tie.Need-returns
-returns c = sym (reading-none (c .before .before .args .bytes .now) (c .before .before .args .turn) (c .if1 .taken))
+returns c = reads (sym (reading-none (c .before .before .args .bytes .now) (c .before .before .args .turn) (c .if1 .taken)))
 
 shared-slice-read-kind-of : tie.Need-shared-slice-read-kind-of
 shared-slice-read-kind-of c = search needs
@@ -88,13 +88,13 @@ body-requires c κs =
     rw (all (list a), length-drop 1 (list a)) long
 
 returns-2 : tie.Need-returns-2
-returns-2 c = sym (found (c .before .before .before) _ (c .before .why .given .1))
+returns-2 c = reads (sym (found (c .before .before .before) _ (c .before .why .given .1)))
 
 returns-3 : tie.Need-returns-3
 returns-3 c =
     let e = c .before .before in
     let a = e .before .before in
-    c .body .ensures ∙ ap (bodyOf (kind a)) (all (list a)) ∙ sym (found a _ (e .enum-told .given .1))
+    reads (c .body .ensures ∙ ap (bodyOf (kind a)) (all (list a)) ∙ sym (found a _ (e .enum-told .given .1)))
 
 pub read-spec : {M : Type 1} → statement M
 read-spec =

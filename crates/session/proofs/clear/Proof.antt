@@ -1,16 +1,17 @@
-use mathlib.Core.Path.{refl}
+use mathlib.Core.Path.{ap}
+use mathlib.Core.List.{[]}
 use borrow.Author.Needs.{needs}
+use Rattle.session.specs.declared.Session.{Session}
+use Rattle.session.specs.declared.Answer.the-variants.{Done}
+use Rattle.session.specs.Session.{outcome}
 use Rattle.session.proofs.clear.Statement.{statement}
 use Rattle.session.proofs.clear.Tie as tie
-use Rattle.session.proofs.clear.Reads as reads
-use Rattle.session.proofs.clear.Lts as lts
-use Rattle.session.proofs.start.Reads as start-reads
 
 start-requires : tie.Need-start-requires
 start-requires c κs = search needs
 
 returns : tie.Need-returns
-returns c = rw (c .start .ensures) refl
+returns c = ap (λ (t : Session). outcome [] t Done) (c .start .ensures)
 
 pub clear-spec : {M : Type 1} → statement M
 clear-spec = tie.close (tie.spec start-requires returns)

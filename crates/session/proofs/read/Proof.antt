@@ -42,7 +42,7 @@ returns c =
     let r = c .before .before .before .before in
     let s = r .before .before .before in
     c .accepted .ensures
-    ∙ ap (outcomeOf (s .args .s)) (sym (c .before .before .r .given .1) ∙ r .read .ensures ∙ ap (readingOf (now (s .args .bytes))) (r .before .turn .ensures))
+    ∙ ap (outcomeOf (s .args .s)) (sym (c .before .before .r .given .1) ∙ r .read .ensures .reading ∙ ap (readingOf (now (s .args .bytes))) (r .before .turn .ensures))
     ∙ sym (reading-outcome (s .args .s .stage) (now (s .args .bytes)))
 
 -- src/lib.rt:96:1
@@ -51,7 +51,7 @@ returns-2 c =
     let r = c .before .before .before .before in
     let s = r .before .before .before in
     rw (c .refused .ensures .0, c .refused .ensures .1) (refused-outcome (s .args .s .stage) (c .before .before .r2 .given .0 .0))
-    ∙ ap (outcomeOf (s .args .s)) (sym (c .before .before .r2 .given .1) ∙ r .read .ensures ∙ ap (readingOf (now (s .args .bytes))) (r .before .turn .ensures))
+    ∙ ap (outcomeOf (s .args .s)) (sym (c .before .before .r2 .given .1) ∙ r .read .ensures .reading ∙ ap (readingOf (now (s .args .bytes))) (r .before .turn .ensures))
     ∙ sym (reading-outcome (s .args .s .stage) (now (s .args .bytes)))
 
 pub read-spec : {M : Type 1} → statement M

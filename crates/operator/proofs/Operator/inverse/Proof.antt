@@ -5,7 +5,7 @@ use mir.Facts.{toZ-ofZ}
 use Rattle.operator.specs.declared.Check.the-variants.{Special}
 use Rattle.operator.specs.declared.Inverse.the-variants.{Operator as Undo}
 use Rattle.operator.specs.Operator.{detWhole, checkOf}
-use Rattle.operator.specs.Inverse.{times, inverseOf}
+use Rattle.operator.specs.Inverse.{times, inverseOf, inverts}
 use Rattle.operator.specs.Accepted.{accepted}
 use Rattle.operator.specs.Determinant.{determinant-is}
 use Rattle.operator.specs.Adjugate.{adjugate-small}
@@ -20,7 +20,7 @@ enum-told : tie.Need-enum-told
 enum-told c = search needs
 
 passed : (c : tie.After-enum-told) → checkOf (c .before .before .before .args .self) ≡ Special
-passed c = sym (c .before .before .check .ensures) ∙ c .enum-told .given .1
+passed c = sym (c .before .before .check .ensures .check) ∙ c .enum-told .given .1
 
 adjugate-requires : tie.Need-adjugate-requires
 adjugate-requires c κs = accepted _ (passed c) .small
@@ -52,19 +52,19 @@ returns : tie.Need-returns
 unfolding inverseOf
 returns c =
     let d = c .before in
-    rw (passed (d .before .before .before)) (ap Undo (c .times .ensures ∙ ap₂ times (determinant-is-whole d) (d .before .before .adjugate .ensures)))
+    inverts (rw (passed (d .before .before .before)) (ap Undo (c .times .ensures ∙ ap₂ times (determinant-is-whole d) (d .before .before .adjugate .ensures))))
 
 returns-2 : tie.Need-returns-2
 unfolding inverseOf
-returns-2 c = rw (← c .before .before .check .ensures, c .enum-told2 .given .1) refl
+returns-2 c = inverts (rw (← c .before .before .check .ensures .check, c .enum-told2 .given .1) refl)
 
 returns-3 : tie.Need-returns-3
 unfolding inverseOf
-returns-3 c = rw (← c .before .before .check .ensures, c .enum-told3 .given .1) refl
+returns-3 c = inverts (rw (← c .before .before .check .ensures .check, c .enum-told3 .given .1) refl)
 
 returns-4 : tie.Need-returns-4
 unfolding inverseOf
-returns-4 c = rw (← c .before .before .check .ensures, c .enum-told4 .given .1) refl
+returns-4 c = inverts (rw (← c .before .before .check .ensures .check, c .enum-told4 .given .1) refl)
 
 pub inverse-spec : {M : Type 1} → statement M
 inverse-spec =

@@ -1,3 +1,4 @@
+use Prim.Native.Nat.{_^_}
 use native.Mathlib.Omega.{arith}
 use lib.IntN.{_+ℤ_, _*ℤ_}
 use mir.Syntax.{w64}
@@ -11,8 +12,8 @@ use Rattle.operator.proofs.matrix.dot.Tie as tie
 fits : (c : tie.Start) → let a = c .args in SFits w64 (_*ℤ_ (a .x) (a .y)) × SFits w64 (_*ℤ_ (a .u) (a .w)) × SFits w64 (_*ℤ_ (a .x) (a .y) +ℤ _*ℤ_ (a .u) (a .w))
 fits c =
     let a = c .args in
-    let xy = size-*≤ (a .x) (a .y) 65536 65536 (c .pre .0) (c .pre .1) in
-    let uw = size-*≤ (a .u) (a .w) 65536 65536 (c .pre .2) (c .pre .3) in
+    let xy = size-*≤ (a .x) (a .y) (2 ^ 30) (2 ^ 30) (c .pre .0) (c .pre .1) in
+    let uw = size-*≤ (a .u) (a .w) (2 ^ 30) (2 ^ 30) (c .pre .2) (c .pre .3) in
     (size→fits (omega arith), size→fits (omega arith), size→fits (omega (arith, dot-size (a .x) (a .y) (a .u) (a .w) (c .pre .0) (c .pre .1) (c .pre .2) (c .pre .3))))
 
 mul-result : tie.Need-mul-result

@@ -32,12 +32,12 @@ enum-told c = search needs
 -- src/image.rt:14:1
 returns : tie.Need-returns
 unfolding isImage
-returns c = c .solves-wide .ensures ∙ rw (sym (c .before .before .before .before .before .inverse .ensures) ∙ c .before .before .before .i .given .1, c .before .image .ensures) refl
+returns c = c .solves-wide .ensures ∙ rw (sym (c .before .before .before .before .before .inverse .ensures .inverse) ∙ c .before .before .before .i .given .1, c .before .image .ensures) refl
 
 -- src/image.rt:14:1
 returns-2 : tie.Need-returns-2
 unfolding isImage
-returns-2 c = rw (sym (c .before .before .inverse .ensures) ∙ c .enum-told .given .1) refl
+returns-2 c = rw (sym (c .before .before .inverse .ensures .inverse) ∙ c .enum-told .given .1) refl
 
 pub is-image-spec : {M : Type 1} → statement M
 is-image-spec =

@@ -1,0 +1,154 @@
+-- Demand 2 for every run of the code's calls: a finished walk has handed out the point v if and only if v solves the job.
+use mathlib.Core.Path.{_≡_, refl, sym, ap, subst, _∙_}
+use mathlib.Core.Bool.{Bool, true, false, not}
+use mathlib.Core.List.{List, [], _∷_, map, List·Memᴰ, List·Memᴰ·head, List·Memᴰ·tail, List·Memᴰ·not-nil, List·Memᴰ·cases-cons}
+use mathlib.Core.Logic.{_↔_, ⊎-elim}
+use Prim.Native.Nat.{ℕ, zero, suc, _≤_, _<_}
+use native.Mathlib.Omega.{arith}
+use lib.IntN.{ℤ}
+use lib.ListN.{take}
+use Rattle.ring.specs.declared.Point.{Point}
+use Rattle.region.specs.declared.Job.{Job}
+use Rattle.region.specs.Region.{solves}
+use Rattle.ranks.specs.Rest.{Place, isNil}
+use Rattle.ranks.specs.Rank.{top}
+use Rattle.ranks.specs.Members.{Rising, rest-sound}
+use Rattle.ranks.specs.Handed.{flat}
+use Rattle.cuts.specs.Digits.{span}
+use Rattle.walk.specs.Walk.{pointOf, solvesAt, numbersOf, full}
+use Rattle.walk.specs.Points.{PointBefore, point-order, rank-point}
+use Rattle.walk.specs.Full.{Listed, full-holds, full-empty, solution-fits}
+use Rattle.operator.specs.declared.Operator.{Operator}
+use Rattle.calls.specs.Session.{whole, plain, early, walking}
+use Rattle.calls.specs.Session as Model
+use Rattle.calls.specs.Rules.{begin, tallied}
+use Rattle.calls.specs.Agree.{jobOf, whole-job}
+use Rattle.calls.specs.Since.{points, spaces, fullOf}
+use Rattle.calls.specs.End.{reported, finished-all}
+use Rattle.session.specs.declared.Course.{Course}
+use Rattle.session.specs.declared.Stage.{Stage}
+use Rattle.session.specs.declared.Stage.the-variants as S
+use Rattle.session.specs.declared.Session.{Session}
+use Rattle.session.specs.declared.Answer.the-variants as A
+use Rattle.session.specs.World.{world}
+use Rattle.session.specs.Session.{stageOf, meaning, courseOf, Steps}
+use Rattle.session.specs.Run.{Made, Run, callsOf, sinceOf, from-after}
+use Rattle.session.specs.RunCalls.{listOf, run-since, run-first, run-rising}
+
+-- numbers read as points, four for each
+abbrev pub pointsOf : List ℤ → List Point
+pointsOf [] = []
+pointsOf (a ∷ []) = []
+pointsOf (a ∷ b ∷ []) = []
+pointsOf (a ∷ b ∷ c ∷ []) = []
+pointsOf (a ∷ b ∷ c ∷ d ∷ l) = record { a = a; b = b; c = c; d = d } ∷ pointsOf l
+
+-- the points handed out since the last rewind or clearing
+abbrev pub handedOut : List Made → List Point
+handedOut ms = pointsOf (points world (sinceOf ms))
+
+-- "ordered by a, then b, c, d, as signed numbers": each point comes before all that follow it, so none comes twice
+abbrev pub BeforeAll : Point → List Point → Type 0
+BeforeAll v [] = Unit {0}
+BeforeAll v (w ∷ l) = PointBefore v w × BeforeAll v l
+
+abbrev pub Ascending : List Point → Type 0
+Ascending [] = Unit {0}
+Ascending (v ∷ l) = BeforeAll v l × Ascending l
+
+-- ---- ranks and their points
+flat-points : (l : List ℕ) → pointsOf (flat numbersOf l) ≡ map pointOf l
+flat-points [] = refl
+flat-points (r ∷ l) = ap (λ (t : List Point). pointOf r ∷ t) (flat-points l)
+
+listed-there : (l : List ℕ) (v : Point) → List·Memᴰ v (map pointOf l) → Listed l v
+listed-there [] v m = absurd (List·Memᴰ·not-nil m)
+listed-there (r ∷ l) v m =
+    ⊎-elim (λ e. record { at = r; held = List·Memᴰ·head refl; point = sym e }) (λ k. let h = listed-there l v k in record { at = h .at; held = List·Memᴰ·tail (h .held); point = h .point })
+    (List·Memᴰ·cases-cons m)
+
+there-listed : (l : List ℕ) (v : Point) (r : ℕ) → List·Memᴰ r l → pointOf r ≡ v → List·Memᴰ v (map pointOf l)
+there-listed [] v r m e = absurd (List·Memᴰ·not-nil m)
+there-listed (q ∷ l) v r m e = ⊎-elim (λ f. List·Memᴰ·head (sym e ∙ ap pointOf f)) (λ k. List·Memᴰ·tail (there-listed l v r k e)) (List·Memᴰ·cases-cons m)
+
+module _ (j : Job) where
+  abbrev Solving : List ℕ → Type 0
+  Solving [] = Unit {0}
+  Solving (r ∷ l) = (solvesAt j r ≡ true) × Solving l
+
+  solving : (l : List ℕ) → ((r : ℕ) → List·Memᴰ r l → solvesAt j r ≡ true) → Solving l
+  solving [] h = tt
+  solving (r ∷ l) h = (h r (List·Memᴰ·head refl), solving l (λ q m. h q (List·Memᴰ·tail m)))
+
+  solving-take : (n : ℕ) (l : List ℕ) → Solving l → Solving (take n l)
+  solving-take zero l h = tt
+  solving-take (suc n) [] h = tt
+  solving-take (suc n) (r ∷ l) h = (h .0, solving-take n l (h .1))
+
+  before-all : (r lo : ℕ) (l : List ℕ) → solvesAt j r ≡ true → r < lo → Rising lo l → Solving l → BeforeAll (pointOf r) (map pointOf l)
+  before-all r lo [] t h up s = tt
+  before-all r lo (q ∷ l) t h up s =
+      let less : r < q = omega arith in
+      (point-order (pointOf r) (pointOf q) (solution-fits j (pointOf r) t) (solution-fits j (pointOf q) (s .0)) .1 (rw (rank-point r, rank-point q) less), before-all r (suc q) l t (omega arith) (up .1) (s .1))
+
+  ascending : (lo : ℕ) (l : List ℕ) → Rising lo l → Solving l → Ascending (map pointOf l)
+  ascending lo [] up s = tt
+  ascending lo (r ∷ l) up s = (before-all r (suc r) l (s .0) (omega arith) (up .1) (s .1), ascending (suc r) l (up .1) (s .1))
+
+first-ascending : (m : Model.Session world) (n : ℕ) → Rising 0 (take n (fullOf world m)) → Ascending (map pointOf (take n (fullOf world m)))
+first-ascending (early p) zero up = tt
+first-ascending (early p) (suc n) up = tt
+first-ascending (walking j w o) n up =
+    ascending j 0 (take n (Model.full world j)) up (solving-take j n (Model.full world j) (solving j (Model.full world j) (λ r m. rest-sound (solvesAt j) (top span) 0 r m .2)))
+
+-- "in rising order, each once", of the points themselves, for every run
+pub run-points : {ms : List Made} {t : Session} → Run ms t → Ascending (handedOut ms)
+run-points {ms} {t} r =
+    let n = spaces world (sinceOf ms) in
+    rw (run-first r, flat-points (take n (listOf t))) (first-ascending (meaning t) n (run-rising r))
+
+-- ---- "a finished walk has handed out u if and only if u solves the scaled grid problem"
+pub record Finished (ms : List Made) (t : Session) : Type 0 where
+  pub course : Course
+  pub stands : t .stage ≡ S.Walking course
+  -- its job is the one that the records read make, by the rules
+  pub job : tallied world (begin world) (callsOf ms) .job ≡ whole (course .job)
+  pub solutions : (v : Point) → List·Memᴰ v (handedOut ms) ↔ (solves (course .job) v ≡ true)
+  pub rising : Ascending (handedOut ms)
+
+course-of : (g : Stage) (j : Job) (w : Place) (o : Operator) → stageOf g ≡ walking j w o → (c : Course) × (g ≡ S.Walking c) × (c .job ≡ j)
+course-of S.Fresh j w o e = absurd (let z : _≡_ {A = ℕ} 0 1 = cc in omega arith)
+course-of (S.Scaled k) j w o e = absurd (let z : _≡_ {A = ℕ} 0 1 = cc in omega arith)
+course-of (S.First k a) j w o e = absurd (let z : _≡_ {A = ℕ} 0 1 = cc in omega arith)
+course-of (S.Walking c) j w o e = (c, refl, cc)
+
+holds-just : (j : Job) (v : Point) → List·Memᴰ v (map pointOf (full j)) ↔ (solves j v ≡ true)
+holds-just j v = ((λ m. full-holds j v .1 (listed-there (full j) v m)), (λ e. let h = full-holds j v .0 e in there-listed (full j) v (h .at) (h .held) (h .point)))
+
+-- a hand-out since the last rewind or clearing reported the end
+pub run-finished : {ms : List Made} {t : Session} → Run ms t → reported world (sinceOf ms) ≡ true → Finished ms t
+unfolding full
+run-finished {ms} {t} r e =
+    let f = finished-all world (callsOf ms) (ap (reported world) (sym (run-since r)) ∙ e) in
+    let j = f .job in
+    let (c, stands, same) = course-of (t .stage) j (f .place) (f .operator) (from-after r ∙ f .stands) in
+    let all : handedOut ms ≡ map pointOf (full j) = ap pointsOf (ap (points world) (run-since r) ∙ f .all) ∙ flat-points (full j) in
+    record {
+      course = c;
+      stands = stands;
+      job = whole-job world (callsOf ms) ∙ ap (jobOf world) (f .stands) ∙ ap whole (sym same);
+      solutions = λ v. rw (all, same) (holds-just j v);
+      rising = run-points r;
+    }
+
+-- ---- "A job is called empty if and only if no such u exists."
+nil-not : (l : List ℕ) → (not (isNil l) ≡ false) ↔ (l ≡ [])
+nil-not [] = ((λ e. refl), (λ e. refl))
+nil-not (x ∷ l) = ((λ e. absurd (let z : _≡_ {A = ℕ} 0 1 = cc in omega arith)), (λ e. cc))
+
+pub run-empty : (s : Session) (c : Course) (b : Bool) → s .stage ≡ S.Walking c → Steps plain [] s s (A.Says b) → (b ≡ false) ↔ ((v : Point) → solves (c .job) v ≡ false)
+unfolding full
+run-empty s c b e h =
+    let q : b ≡ not (isNil (full (c .job))) = cc (ap (λ (o : Model.Outcome world). o .0) (rw e at h)) in
+    let n = nil-not (full (c .job)) in
+    ((λ f. full-empty (c .job) .0 (n .0 (sym q ∙ f))), (λ g. q ∙ n .1 (full-empty (c .job) .1 g)))
