@@ -1,8 +1,9 @@
 -- `Walk` has the definitions; `Points` the ranks of points; `Full` the theorem about the full list; `Search` what each level of the search promises; `Row` solutions in a
--- row; `Hand` where a hand-out stands.
+-- row; `Hand` where a hand-out stands; `Brief` what a brief look tells.
 pub mod Walk
 pub mod Points
 pub mod Full
 pub mod Search
 pub mod Row
 pub mod Hand
+pub mod Brief
