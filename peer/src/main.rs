@@ -1,5 +1,6 @@
 //! A second, independent list program, with a few modes for comparing.
 
+mod adversary;
 mod bench;
 mod bounds;
 mod bytes;
@@ -13,6 +14,7 @@ mod random;
 mod root2;
 #[cfg(test)]
 mod tests;
+mod timing;
 mod walk;
 
 use std::env;
@@ -26,10 +28,12 @@ use std::process::ExitCode;
 use std::str::FromStr;
 use std::time::Instant;
 
+use adversary::Adversary;
 use generate::Generator;
 use job::{encode, Job, ELLIPSE, OPERATOR, RECTANGLE, SCALE};
 use lines::Lines;
 use member::Point;
+use timing::Console;
 use walk::Walk;
 
 const LONGEST_INPUT: usize = 65_536;
@@ -41,6 +45,7 @@ const USAGE: &str = "usage: peer [list | count | first] < job
        peer pack < records > job
        peer jobs DIR
        peer noise
+       peer time CONSOLE SEED COUNT LEAST MOST LIMIT
        peer bytes PROGRAM FROM TO STEP";
 
 type Outcome = Result<(), Box<dyn Error>>;
@@ -76,6 +81,10 @@ fn run(arguments: &[String]) -> Outcome {
         ("pack", []) => pack(),
         ("jobs", [directory]) => write_jobs(Path::new(directory)),
         ("noise", []) => noise(),
+        ("time", [console, seed, count, least, most, limit]) => {
+            let scales = [number(least)?, number(most)?];
+            time(console, number(seed)?, number(count)?, scales, number(limit)?)
+        }
         ("bytes", [program, from, to, step]) => {
             check_bytes(program, number(from)?, number(to)?, number(step)?)
         }
@@ -126,7 +135,11 @@ fn noise() -> Outcome {
     let bytes: Vec<u8> = std::iter::repeat_with(|| {
         x = x.wrapping_mul(1_664_525).wrapping_add(1_013_904_223);
         let byte = (x >> 24) as u8;
-        if (x >> 16) % 4 == 0 { byte % 6 } else { byte }
+        if (x >> 16) % 4 == 0 {
+            byte % 6
+        } else {
+            byte
+        }
     })
     .take(140_000)
     .collect();
@@ -273,6 +286,52 @@ fn write_jobs(directory: &Path) -> Outcome {
 
 fn hex(bytes: &[u8]) -> String {
     bytes.iter().map(|byte| format!("{byte:02x}")).collect()
+}
+
+/// Times a console's calls on hard random jobs: a first point, the plain
+/// question, and each of the next 100 points. LIMIT is in milliseconds.
+fn time(console: &str, seed: u64, count: usize, scales: [i64; 2], limit: i64) -> Outcome {
+    let console = Console::new(console)?;
+    say(format!("start {} µs; jobs {count}, seed {seed}, k {scales:?}", console.start()))?;
+    let mut adversary = Adversary::new(seed, scales);
+    let jobs: Vec<String> = std::iter::repeat_with(|| {
+        let reads = adversary.job().map(|record| format!("read {}\n", hex(&record)));
+        format!("clear\n{}", reads.concat())
+    })
+    .take(count)
+    .collect();
+    let limit = 1_000 * limit;
+    let with =
+        |calls: &str| -> Vec<String> { jobs.iter().map(|job| job.clone() + calls).collect() };
+    for (name, call) in [("first", "hand 4\n"), ("plain", "plain\n")] {
+        report(name, timing::slowest(&console, &with(call), limit)?, &jobs)?;
+    }
+    let hundred = with(&"hand 4\n".repeat(101));
+    let mut next = timing::slowest(&console, &hundred, limit)?;
+    next.worst = (0, 0);
+    for (took, job) in std::mem::take(&mut next.over) {
+        let (slowest, _) =
+            timing::slowest_call(&console, &(jobs[job].clone() + "hand 4\n"), "hand 4\n", 100)?;
+        say(format!("  101 points {took} µs, the slowest next one {slowest} µs"))?;
+        next.worst = next.worst.max((slowest, job));
+        if slowest > limit {
+            next.over.push((slowest, job));
+        }
+    }
+    report("next", next, &jobs)
+}
+
+fn report(name: &str, mut found: timing::Slow, jobs: &[String]) -> Outcome {
+    let (worst, at) = found.worst;
+    say(format!("{name}: over the limit {}, worst {worst} µs", found.over.len()))?;
+    found.over.sort_unstable();
+    if found.over.is_empty() {
+        found.over.push((worst, at));
+    }
+    for (took, job) in found.over.iter().rev().take(20) {
+        say(format!("  {took} µs {}", jobs[*job].replace("clear\n", "").replace('\n', " ")))?;
+    }
+    Ok(())
 }
 
 /// Runs a list program on bytes of each length.

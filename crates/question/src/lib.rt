@@ -22,6 +22,7 @@ mod void;
 use operator::Inverse;
 use operator::Operator;
 use region::Job;
+use walk::Look;
 
 // An operator and its inverse.
 pub(crate) struct Turn {
@@ -29,9 +30,21 @@ pub(crate) struct Turn {
     pub back: Operator,
 }
 
-// Whether a job has a solution, searched in the coordinates of an operator: the caller's where it is not the identity and its boxes are not large, else the reduction's
-// proposal.
+// Whether a job has a solution: by a brief look in its own coordinates, or else searched in the coordinates of an operator.
 pub fn has_solution(job: Job, caller: Operator) -> bool
+    ensures { λ r. ⌜ r ≡ not (isNil (full job)) ⌝ }
+{
+    let k = walk::glance(job);
+    match k {
+        Look::Found => true,
+        Look::Nothing(_) => false,
+        Look::Tired => searched(job, caller),
+    }
+}
+
+// The same searched in the coordinates of an operator: the caller's where it is not the identity and its boxes are not large, else the reduction's
+// proposal.
+fn searched(job: Job, caller: Operator) -> bool
     ensures { λ r. ⌜ r ≡ not (isNil (full job)) ⌝ }
 {
     if !job.is_accepted() {

@@ -1,5 +1,5 @@
 -- `Walk` has the definitions; `Points` the ranks of points; `Full` the theorem about the full list; `Search` what each level of the search promises; `Row` solutions in a
--- row; `Hand` where a hand-out stands.
+-- row; `Hand` where a hand-out stands; `Brief` what a brief look tells.
 pub mod Walk
 pub mod Points
 pub mod Full
@@ -7,3 +7,4 @@ pub mod Search
 pub mod Row
 pub mod Hand
 pub mod Count
+pub mod Brief
