@@ -1,8 +1,8 @@
 // Digits of a rank: a coordinate + 2^31.
 ghost use mathlib.Core.Path.{_≡_};
 ghost use Rattle.cuts.specs.Digits.{Digits, pointAt};
-pub(crate) use points::digit;
 use points::coordinate;
+pub(crate) use points::digit;
 use ring::Point;
 
 pub(crate) fn point(a: u64, b: u64, c: u64, d: u64) -> Point
