@@ -1,0 +1,5 @@
+-- `Points` has the rank of a point, a natural number, so that point order is the order of ranks; `Digits` the digits of which it is made; `Listed` the lists of the points that
+-- pass a test.
+pub mod Digits
+pub mod Points
+pub mod Listed
