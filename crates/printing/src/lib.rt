@@ -1,14 +1,15 @@
-// What the list program writes for an input: document 01, "The list program"; and the same without the solutions' lines, for timing. What decides is in `input` and `listing`.
+// What the list program writes for an input: document 01, "The list program"; and the same without the solutions' lines, for timing. The output comes in
+// pieces, each filled into a lent slice: joined they are `outputOf` of the input (specs/Joined).
 ghost use mathlib.Core.Path.{_≡_};
-ghost use mathlib.Core.Bool.{true};
-ghost use Prim.Native.Nat.{_<_, _≤_};
 ghost use lib.ListN.{length};
-ghost use Rattle.session.specs.Session.{meaning};
-ghost use Rattle.listing.specs.Given.{leftOf};
+ghost use Rattle.input.specs.Load.{loadOf};
+ghost use Rattle.printing.specs.Pieces.{stateOf, isDone as doneAt, begin, Filled};
+
+mod counting;
+mod fill;
+
 use input::Input;
-use listing::Page;
 use record::Refusal;
-use session::Answer;
 use session::Session;
 use text::Wide;
 
@@ -19,91 +20,92 @@ pub fn input_buffer() -> [u8; 65537]
     [0; 65537]
 }
 
+// Where the output stands: one line alone; solutions to come, with the number of those before them; the line at the end; nothing more.
+pub enum Output {
+    TooLong,
+    Refusal(Refusal, usize),
+    List(Session, Wide),
+    Last(Wide),
+    Done,
+}
+
+// A piece of the output, and where it stands after it.
+pub struct Piece {
+    pub next: Output,
+    pub length: usize,
+}
+
+// Before the first piece of the output for an input.
+pub fn start(bytes: &[u8]) -> Output
+    ensures { λ r. ⌜ stateOf r ≡ begin (loadOf (now (bytes .entry))) ⌝ }
+{
+    let input = input::load(bytes);
+    match input {
+        Input::TooLong => Output::TooLong,
+        Input::Refused(f, at) => Output::Refusal(f, at),
+        Input::Job(s) => Output::List(s, Wide { hi: 0, lo: 0 }),
+    }
+}
+
+// The next piece at the start of out; none where out has no room for a line.
+pub fn next(o: Output, out: &mut [u8]) -> Piece
+    ensures { λ r. ⌜ Filled (stateOf o) r (now (out .entry)) (now (out .exit)) ⌝ }
+{
+    if out.len() < 126 {
+        return Piece { next: o, length: 0 };
+    }
+    fill::part(o, out)
+}
+
+pub fn is_done(o: Output) -> bool
+    ensures { λ r. ⌜ r ≡ doneAt (stateOf o) ⌝ }
+{
+    match o {
+        Output::TooLong => false,
+        Output::Refusal(_, _) => false,
+        Output::List(_, _) => false,
+        Output::Last(_) => false,
+        Output::Done => true,
+    }
+}
+
 // All that is printed for an input.
 pub fn print_list(fd: i32, bytes: &[u8]) {
-    print_input(fd, bytes, true);
+    print_from(fd, start(bytes));
 }
 
 // The same without the lines of the solutions: their number alone, or why there is none.
 pub fn print_count(fd: i32, bytes: &[u8]) {
-    print_input(fd, bytes, false);
-}
-
-fn print_input(fd: i32, bytes: &[u8], lines: bool) {
-    let input = input::load(bytes);
-    match input {
-        Input::TooLong => print(fd, b"too long\n"),
-        Input::Refused(f, at) => print_refusal(fd, f, at),
-        Input::Job(s) => print_all(fd, s, lines),
+    let o = start(bytes);
+    if let Output::List(s, _) = o {
+        print_from(fd, Output::Last(counting::count(s)));
+        return;
     }
+    print_from(fd, o);
 }
 
 pub fn print(fd: i32, text: &[u8]) {
     io::write_all(fd, text);
 }
 
-fn print_refusal(fd: i32, f: Refusal, at: usize) {
-    let mut line = io::buffer();
-    let n = listing::put_refusal(&mut line, 0, f, at);
-    print(fd, &line[..n]);
-}
-
-// All solutions, each with its line or without, and their number.
-fn print_all(fd: i32, s: Session, lines: bool) {
+// Piece after piece until nothing is left.
+fn print_from(fd: i32, from: Output) {
     let mut space = output_buffer();
     let out: &mut [u8] = &mut space;
-    let mut left = s;
-    let mut total = Wide { hi: 0, lo: 0 };
-    let mut more = true;
-    while more {
-        let p = page(fd, left, lines, out);
-        total = total.plus(p.count as u64);
-        left = p.session;
-        more = p.more;
-    }
-    print_end(fd, total);
-}
-
-// One hand-out, printed by way of a slice that has room for a point at least, or not printed.
-fn page(fd: i32, s: Session, lines: bool, out: &mut [u8]) -> Page
-    requires { ⌜ 126 ≤ length (now out) ⌝ }
-    ensures { λ r. ⌜ (r .more ≡ true → leftOf (meaning (r .session)) < leftOf (meaning s)) ⌝ }
-{
-    if lines {
-        print_page(fd, s, out)
-    } else {
-        count_page(s)
+    let mut o = from;
+    while !is_done(o) {
+        let p = print_piece(fd, o, out);
+        o = p.next;
     }
 }
 
-// One hand-out of at most 1,024 points without its lines.
-fn count_page(s: Session) -> Page
-    ensures { λ r. ⌜ (r .more ≡ true → leftOf (meaning (r .session)) < leftOf (meaning s)) ⌝ }
+fn print_piece(fd: i32, o: Output, out: &mut [u8]) -> Piece
+    ensures { λ r. ⌜ Filled (stateOf o) r (now (out .entry)) (now (out .exit)) ⌝ }
 {
-    let mut points = point_buffer();
-    let o = session::hand_out(s, &mut points);
-    let session = o.session;
-    let a = o.answer;
-    let Answer::Handed(count, end) = a else {
-        return Page {
-            session,
-            count: 0,
-            more: false,
-            length: 0,
-        };
-    };
-    Page {
-        session,
-        count,
-        more: !end,
-        length: 0,
-    }
-}
-
-fn point_buffer() -> [i32; 4096]
-    ensures { λ r. ⌜ 4096 ≡ length r ⌝ }
-{
-    [0; 4096]
+    let p = next(o, out);
+    let n = p.length;
+    print(fd, &out[..n]);
+    p
 }
 
 // Room for the lines of 1,024 points.
@@ -111,21 +113,4 @@ fn output_buffer() -> [u8; 131072]
     ensures { λ r. ⌜ 131072 ≡ length r ⌝ }
 {
     [0; 131072]
-}
-
-// One hand-out's lines.
-fn print_page(fd: i32, s: Session, out: &mut [u8]) -> Page
-    requires { ⌜ 126 ≤ length (now out) ⌝ }
-    ensures { λ r. ⌜ (r .more ≡ true → leftOf (meaning (r .session)) < leftOf (meaning s)) ⌝ }
-{
-    let p = listing::next(s, out);
-    let n = p.length;
-    print(fd, &out[..n]);
-    p
-}
-
-fn print_end(fd: i32, total: Wide) {
-    let mut line = io::buffer();
-    let n = listing::put_end(&mut line, 0, total);
-    print(fd, &line[..n]);
 }

@@ -11,8 +11,8 @@ use Rattle.session.specs.World.{world}
 use Rattle.session.specs.Session.{meaning, outcome}
 use Rattle.listing.specs.Given.{leftOf, page-handed, page-less}
 use borrow.Author.Needs.{needs}
-use Rattle.printing.proofs.count_page.Statement.{statement}
-use Rattle.printing.proofs.count_page.Tie as tie
+use Rattle.printing.proofs.counting.count_page.Statement.{statement}
+use Rattle.printing.proofs.counting.count_page.Tie as tie
 
 -- a hand-out that was refused leaves nothing to come
 never : {P : Type 0} → false ≡ true → P

@@ -1,17 +1,12 @@
--- `print_page` is safe, and less is left after it. Assumes nothing.
-use Prim.Native.Nat.{_/_, _≤_}
-use mathlib.Core.Path.{_≡_, sym, _∙_}
-use native.Mathlib.Nat.{le-min}
-use native.Mathlib.Omega.{arith}
+-- `print_piece` meets its contract: the text that it prints is what `next` filled. Assumes nothing.
+use Prim.Native.Nat.{_≤_}
+use mathlib.Core.Path.{sym}
 use lib.ListN.{length}
 use lib.Seq.{length-take-le}
-use Rattle.session.specs.Session.{meaning}
 use Rattle.text.specs.Append.{appended-within}
-use Rattle.listing.specs.Given.{leftOf, page-less}
-use Rattle.listing.specs.Lines.{roomIn}
 use borrow.Author.Needs.{needs}
-use Rattle.printing.proofs.print_page.Statement.{statement}
-use Rattle.printing.proofs.print_page.Tie as tie
+use Rattle.printing.proofs.print_piece.Statement.{statement}
+use Rattle.printing.proofs.print_piece.Tie as tie
 
 within : (p : tie.After-next) → p .next .result .length ≤ length (p .next .last .1 .0)
 within p = appended-within _ _ _ _ (p .next .ensures .text)
@@ -32,17 +27,10 @@ same-length : tie.Need-same-length
 same-length c = search needs
 
 returns : tie.Need-returns
-returns c e =
-    let p = c .before .before .before .before in
-    let s = p .before .before .before in
-    let n = length (s .args .out .now) in
-    let h = s .pre in
-    let some : 1 ≤ n / 126 = omega arith in
-    let room : 1 ≤ roomIn n = le-min (omega arith) some in
-    rw (p .next .ensures .session) (page-less (roomIn n) room (meaning (s .args .s)) (sym (p .next .ensures .more) ∙ e))
+returns c = search needs
 
-pub print-page-spec : {M : Type 1} → statement M
-print-page-spec =
+pub print-piece-spec : {M : Type 1} → statement M
+print-piece-spec =
     tie.close
     (tie.spec
     next-requires

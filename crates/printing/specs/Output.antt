@@ -1,0 +1,28 @@
+-- All that the list program prints for an input: document 01, "The list program".
+use mathlib.Core.List.{List, [], _∷_, _++_}
+use Prim.Native.Nat.{ℕ}
+use lib.ListN.{length}
+use Rattle.ranks.specs.Handed.{flat}
+use Rattle.walk.specs.Walk.{numbersOf}
+use Rattle.calls.specs.Since.{fullOf}
+use Rattle.session.specs.World.{world}
+use Rattle.input.specs.Load.{Loaded, ready, refused, tooLong, loadOf}
+use Rattle.listing.specs.Lines.{linesOf, endLine, refusalLine}
+use Rattle.listing.specs.Page.{scaleOf}
+
+-- "a longer input prints `too long` alone"
+abbrev pub tooLongLine : List ℕ
+tooLongLine = 116 ∷ 111 ∷ 111 ∷ 32 ∷ 108 ∷ 111 ∷ 110 ∷ 103 ∷ 10 ∷ []
+
+-- the points of a list of ranks, one line for each
+abbrev pub listLines : ℕ → List ℕ → List ℕ
+listLines k l = linesOf k (flat numbersOf l)
+
+-- "one line `a b c d e m` for each solution, then `end N` with N their number", "A refusal prints only `refused R at P`"
+abbrev pub outputFor : Loaded → List ℕ
+outputFor (ready m) = listLines (scaleOf m) (fullOf world m) ++ endLine (length (fullOf world m))
+outputFor (refused r p) = refusalLine r p
+outputFor tooLong = tooLongLine
+
+abbrev pub outputOf : List ℕ → List ℕ
+outputOf bytes = outputFor (loadOf bytes)

@@ -1,0 +1,55 @@
+// The number of solutions without their lines, for timing.
+ghost use mathlib.Core.Path.{_≡_};
+ghost use mathlib.Core.Bool.{true};
+ghost use Prim.Native.Nat.{_<_};
+ghost use lib.ListN.{length};
+ghost use Rattle.session.specs.Session.{meaning};
+ghost use Rattle.listing.specs.Given.{leftOf};
+use listing::Page;
+use session::Answer;
+use session::Session;
+use text::Wide;
+
+// The number of solutions that are left.
+pub(crate) fn count(s: Session) -> Wide {
+    let mut left = s;
+    let mut total = Wide { hi: 0, lo: 0 };
+    let mut more = true;
+    while more {
+        let p = count_page(left);
+        total = total.plus(p.count as u64);
+        left = p.session;
+        more = p.more;
+    }
+    total
+}
+
+// One hand-out of at most 1,024 points without its lines.
+fn count_page(s: Session) -> Page
+    ensures { λ r. ⌜ (r .more ≡ true → leftOf (meaning (r .session)) < leftOf (meaning s)) ⌝ }
+{
+    let mut points = point_buffer();
+    let o = session::hand_out(s, &mut points);
+    let session = o.session;
+    let a = o.answer;
+    let Answer::Handed(count, end) = a else {
+        return Page {
+            session,
+            count: 0,
+            more: false,
+            length: 0,
+        };
+    };
+    Page {
+        session,
+        count,
+        more: !end,
+        length: 0,
+    }
+}
+
+fn point_buffer() -> [i32; 4096]
+    ensures { λ r. ⌜ 4096 ≡ length r ⌝ }
+{
+    [0; 4096]
+}
