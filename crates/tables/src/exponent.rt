@@ -14,7 +14,7 @@ pub fn compare(s: &[u8]) -> Tally {
     t
 }
 
-fn right(count: usize, n: [i64; 64]) -> bool {
+fn right(count: usize, n: [i64; row::WIDTH]) -> bool {
     if count == 6 {
         return is_exponent(n);
     }
@@ -35,7 +35,7 @@ fn is_pulse_count(e: i64, m: i64) -> bool {
     ring::pulse_count(e as u32) == integers::abs(m)
 }
 
-fn is_exponent(n: [i64; 64]) -> bool {
+fn is_exponent(n: [i64; row::WIDTH]) -> bool {
     if !integers::is_nonneg(n[0]) {
         return false;
     }
