@@ -6,7 +6,7 @@ ghost use lib.ListN.{length, take};
 ghost use Rattle.io.specs.Counts.{Counts};
 ghost use Rattle.text.specs.Append.{Appended};
 ghost use Rattle.text.specs.Decimal.{decimal};
-ghost use Rattle.text.specs.Wide.{value};
+ghost use Rattle.words.specs.Meaning.{sizeOf};
 ghost use Rattle.text.specs.Written.{written, after};
 ghost use Rattle.record.specs.Record.{number};
 ghost use Rattle.session.specs.Session.{meaning};
@@ -17,7 +17,7 @@ use ring::Point;
 use session::Answer;
 use session::Session;
 use session::Stage;
-use text::Wide;
+use words::Size;
 
 // One hand-out: the session that it leaves, its count, whether more is to come, and the length of its lines.
 pub struct Page {
@@ -156,8 +156,8 @@ fn put_count(out: &mut [u8], at: usize, n: u64, mark: u8) -> usize
 }
 
 // `end N`.
-pub fn put_end(out: &mut [u8], at: usize, n: Wide) -> usize
-    ensures { λ r. ⌜ (now (out .exit) ≡ written (now (out .entry)) at (endLine (value n))) × (r ≡ after (now (out .entry)) at (endLine (value n))) ⌝ }
+pub fn put_end(out: &mut [u8], at: usize, n: Size) -> usize
+    ensures { λ r. ⌜ (now (out .exit) ≡ written (now (out .entry)) at (endLine (sizeOf n))) × (r ≡ after (now (out .entry)) at (endLine (sizeOf n))) ⌝ }
 {
     let mut line = [0u8; 64];
     let length = end_line(&mut line, n);
@@ -173,9 +173,9 @@ pub fn put_refusal(out: &mut [u8], at: usize, f: Refusal, place: usize) -> usize
     text::put_bytes(out, at, &line[..length])
 }
 
-fn end_line(line: &mut [u8], n: Wide) -> usize
+fn end_line(line: &mut [u8], n: Size) -> usize
     requires { ⌜ length (now line) ≡ 64 ⌝ }
-    ensures { λ r. ⌜ Appended (now (line .entry)) 0 (endLine (value n)) (now (line .exit)) r × Counts r (now (line .exit)) ⌝ }
+    ensures { λ r. ⌜ Appended (now (line .entry)) 0 (endLine (sizeOf n)) (now (line .exit)) r × Counts r (now (line .exit)) ⌝ }
 {
     let a = text::put_bytes(line, 0, b"end ");
     let b = text::put_wide(line, a, n);

@@ -12,9 +12,9 @@ use Rattle.record.specs.declared.Refusal.the-variants as F
 use Rattle.record.specs.Record.{number}
 use Rattle.text.specs.Append.{Appended, appended}
 use Rattle.text.specs.Decimal.{decimal}
-use Rattle.text.specs.Wide.{value}
+use Rattle.words.specs.Meaning.{sizeOf}
 use Rattle.text.specs.Written.{written, after}
-use Rattle.text.specs.declared.wide.Wide.{Wide}
+use Rattle.words.specs.declared.Size.{Size}
 use Rattle.text.proofs.Lengths.{decimal-length}
 use Rattle.text.proofs.Words.{value-below}
 use Rattle.listing.specs.Lines.{endLine, refusalLine, countText}
@@ -67,6 +67,6 @@ refusal-short f p h =
     let b = decimal-length 19 p (lt-of-lt-of-le h (lit≤ tt)) in
     simp length-append (omega arith)
 
-pub end-short : (w : Wide) → w .hi < 2 ^ 64 → w .lo < 2 ^ 64 → length (endLine (value w)) ≤ 126
+pub end-short : (w : Size) → w .hi < 2 ^ 64 → w .lo < 2 ^ 64 → length (endLine (sizeOf w)) ≤ 126
 unfolding endLine countText
-end-short w h l = let a = decimal-length 38 (value w) (value-below w h l) in simp length-append (omega arith)
+end-short w h l = let a = decimal-length 38 (sizeOf w) (value-below w h l) in simp length-append (omega arith)

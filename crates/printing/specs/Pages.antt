@@ -14,7 +14,7 @@ use Rattle.region.specs.declared.Job.{Job}
 use Rattle.operator.specs.declared.Operator.{Operator}
 use Rattle.walk.specs.Walk.{solvesAt}
 use Rattle.calls.specs.Session.{walking}
-use Rattle.text.specs.Wide.{value, wideOf}
+use Rattle.words.specs.Meaning.{sizeOf, wrapped}
 use Rattle.listing.specs.Lines.{linesOf, endLine}
 use Rattle.printing.specs.Output.{listLines}
 use Rattle.printing.specs.Pieces.{State, long, refusal, list, last, done, Part, kept, leftOf, most, restOf}
@@ -24,7 +24,7 @@ two-words : (B n : ℕ) → 0 < B → n < B * B → n / B % B * B + n % B ≡ n
 two-words B n h k = rw (mod-eq-of-lt (div-lt-iff-lt-mul h .1 k)) (div-add-mod' n B)
 
 pub kept-same : (n : ℕ) → n < 2 ^ 128 → kept n ≡ n
-unfolding value wideOf
+unfolding sizeOf wrapped
 kept-same n h = two-words (2 ^ 64) n (lit≤ tt) h
 
 -- ---- lines of two lists

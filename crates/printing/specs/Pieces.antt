@@ -15,7 +15,7 @@ use Rattle.calls.specs.Session as Model
 use Rattle.session.specs.World.{world}
 use Rattle.session.specs.Session.{meaning}
 use Rattle.text.specs.Append.{Appended}
-use Rattle.text.specs.Wide.{value, wideOf}
+use Rattle.words.specs.Meaning.{sizeOf, wrapped}
 use Rattle.input.specs.Load.{Loaded, ready, refused, tooLong}
 use Rattle.listing.specs.Lines.{pageOf, roomIn, endLine, refusalLine}
 use Rattle.listing.specs.Page.{scaleOf}
@@ -42,8 +42,8 @@ isDone done = true
 abbrev pub stateOf : Output → State
 stateOf O.TooLong = long
 stateOf (O.Refusal f at) = refusal (number f) at
-stateOf (O.List s n) = list (meaning s) (value n)
-stateOf (O.Last n) = last (value n)
+stateOf (O.List s n) = list (meaning s) (sizeOf n)
+stateOf (O.Last n) = last (sizeOf n)
 stateOf O.Done = done
 
 -- before the first piece
@@ -58,7 +58,7 @@ pub record Part : Type 0 where
 
 -- a number kept in two words
 abbrev pub kept : ℕ → ℕ
-kept n = value (wideOf n)
+kept n = sizeOf (wrapped n)
 
 abbrev pub partOf : ℕ → State → Part
 partOf n long = record { text = tooLongLine; next = done }

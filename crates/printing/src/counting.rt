@@ -8,12 +8,12 @@ ghost use Rattle.listing.specs.Given.{leftOf};
 use listing::Page;
 use session::Answer;
 use session::Session;
-use text::Wide;
+use words::Size;
 
 // The number of solutions that are left.
-pub(crate) fn count(s: Session) -> Wide {
+pub(crate) fn count(s: Session) -> Size {
     let mut left = s;
-    let mut total = Wide { hi: 0, lo: 0 };
+    let mut total = Size { hi: 0, lo: 0 };
     let mut more = true;
     while more {
         let p = count_page(left);

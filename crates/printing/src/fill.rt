@@ -6,7 +6,7 @@ ghost use Rattle.printing.specs.Pieces.{stateOf, done, FilledPart};
 use crate::Output;
 use crate::Piece;
 use session::Session;
-use text::Wide;
+use words::Size;
 
 pub(crate) fn part(o: Output, out: &mut [u8]) -> Piece
     requires { ⌜ 126 ≤ length (now out) ⌝ }
@@ -40,7 +40,7 @@ fn last(length: usize) -> Piece
 }
 
 // One hand-out's lines.
-fn page(s: Session, total: Wide, out: &mut [u8]) -> Piece
+fn page(s: Session, total: Size, out: &mut [u8]) -> Piece
     ensures { λ r. ⌜ FilledPart (stateOf (Output.List s total)) r (now (out .entry)) (now (out .exit)) ⌝ }
 {
     let p = listing::next(s, out);

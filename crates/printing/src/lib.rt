@@ -11,7 +11,7 @@ mod fill;
 use input::Input;
 use record::Refusal;
 use session::Session;
-use text::Wide;
+use words::Size;
 
 // One byte more than an input may have.
 pub fn input_buffer() -> [u8; 65537]
@@ -24,8 +24,8 @@ pub fn input_buffer() -> [u8; 65537]
 pub enum Output {
     TooLong,
     Refusal(Refusal, usize),
-    List(Session, Wide),
-    Last(Wide),
+    List(Session, Size),
+    Last(Size),
     Done,
 }
 
@@ -43,7 +43,7 @@ pub fn start(bytes: &[u8]) -> Output
     match input {
         Input::TooLong => Output::TooLong,
         Input::Refused(f, at) => Output::Refusal(f, at),
-        Input::Job(s) => Output::List(s, Wide { hi: 0, lo: 0 }),
+        Input::Job(s) => Output::List(s, Size { hi: 0, lo: 0 }),
     }
 }
 

@@ -11,7 +11,7 @@ mod sign;
 
 use libc::STDOUT_FILENO;
 use row::Tally;
-use text::Wide;
+use words::Size;
 
 fn main() {
     let mut space = io::large_buffer();
@@ -35,7 +35,7 @@ fn main() {
 // A number of two words in decimal, on a line.
 fn print_wide(hi: u64, lo: u64) {
     let mut line = io::buffer();
-    let n = text::put_wide(&mut line, 0, Wide { hi, lo });
+    let n = text::put_wide(&mut line, 0, Size { hi, lo });
     io::write_all(STDOUT_FILENO, &line[..n]);
     io::write_all(STDOUT_FILENO, b"\n");
 }

@@ -1,56 +1,30 @@
--- Numbers of two 64-bit words: a sum with its carry, and a tenth by three short divisions. Assumes nothing.
+-- Numbers of two 64-bit words: a tenth by three short divisions. Assumes nothing.
 use Prim.Native.Nat.{ℕ, zero, suc, _+_, _-_, _*_, _/_, _%_, _^_, _≤_, _<_}
 use mathlib.Core.Path.{_≡_, refl, sym, ap, _∙_}
 use mathlib.Core.Bool.{true}
 use mathlib.Core.List.{List, _∷_, _++_, append-nil}
-use native.Mathlib.Nat.{mul-add-div-right, mul-add-mod-self-right, mod-eq-of-lt, mul-le-mul-right, lt-of-lt-of-le, pow-suc}
+use native.Mathlib.Nat.{mul-le-mul-right, lt-of-lt-of-le, pow-suc}
 use native.Mathlib.Omega.{arith}
 use borrow.Author.Tests.{le-leb, lt-leb}
 use lib.Dec.{leb, lit≤}
 use lib.ListN.{length, drop, set, length-set, drop-of-length-le}
 use lib.Seq.{drop-cons, drop-set-lt, getD-set-same, append-snoc}
-use Rattle.text.specs.declared.wide.Wide.{Wide}
+use Rattle.words.specs.declared.Size.{Size}
 use Rattle.text.specs.Decimal.{decimal}
-use Rattle.text.specs.Wide.{value, wideOf}
+use Rattle.words.specs.Meaning.{sizeOf}
 use Rattle.text.proofs.Digits.{decimal-one, decimal-more}
 
--- a number with its words apart
-module _ (B h l n : ℕ) (pos : 0 < B) where
-  lower : (h * B + l + n) % B ≡ (l + n) % B
-  lower =
-      let e : h * B + l + n ≡ h * B + (l + n) = omega arith in
-      rw (e, mul-add-mod-self-right h B (l + n))
-
-  upper : (h * B + l + n) / B ≡ h + (l + n) / B
-  upper =
-      let e : h * B + l + n ≡ h * B + (l + n) = omega arith in
-      rw (e, mul-add-div-right pos h (l + n))
-
-abbrev words : ℕ → ℕ → Wide
+abbrev words : ℕ → ℕ → Size
 words h l = record { hi = h; lo = l }
 
-module _ (w : Wide) (n : ℕ) (fits : w .lo < 2 ^ 64) (small : n < 2 ^ 64) where
-  -- the lower word wraps exactly where it comes out below what was added
-  pub plus-carried : (w .lo + n) % 2 ^ 64 < n → words ((w .hi + 1) % 2 ^ 64) ((w .lo + n) % 2 ^ 64) ≡ wideOf (value w + n)
-  unfolding value wideOf
-  plus-carried h =
-      let one : (w .lo + n) / 2 ^ 64 ≡ 1 = omega arith in
-      rw (lower (2 ^ 64) (w .hi) (w .lo) n (omega arith), upper (2 ^ 64) (w .hi) (w .lo) n (omega arith), one) refl
-
-  pub plus-plain : w .hi < 2 ^ 64 → n ≤ (w .lo + n) % 2 ^ 64 → words (w .hi) ((w .lo + n) % 2 ^ 64) ≡ wideOf (value w + n)
-  unfolding value wideOf
-  plus-plain g h =
-      let none : w .hi + (w .lo + n) / 2 ^ 64 ≡ w .hi = omega arith in
-      rw (lower (2 ^ 64) (w .hi) (w .lo) n (omega arith), upper (2 ^ 64) (w .hi) (w .lo) n (omega arith), none, mod-eq-of-lt g) refl
-
 -- two digits or more
-module _ (w : Wide) where
-  pub tens-over : 0 < w .hi → true ≡ leb 10 (value w)
-  unfolding value
+module _ (w : Size) where
+  pub tens-over : 0 < w .hi → true ≡ leb 10 (sizeOf w)
+  unfolding sizeOf
   tens-over h = sym (le-leb 10 (w .hi * 2 ^ 64 + w .lo) (omega arith))
 
-  pub tens-lower : w .hi ≤ 0 → leb 10 (w .lo) ≡ leb 10 (value w)
-  unfolding value
+  pub tens-lower : w .hi ≤ 0 → leb 10 (w .lo) ≡ leb 10 (sizeOf w)
+  unfolding sizeOf
   tens-lower h = let e : w .lo ≡ w .hi * 2 ^ 64 + w .lo = omega arith in ap (leb 10) e
 
 -- long division by 10, in half words from the second on
@@ -61,12 +35,12 @@ module _ (h l : ℕ) where
   abbrev pub third : ℕ
   third = second % 10 * 4294967296 + l % 4294967296
 
-  pub tenth : value (words (h / 10) (second / 10 * 4294967296 + third / 10)) ≡ value (words h l) / 10
-  unfolding value
+  pub tenth : sizeOf (words (h / 10) (second / 10 * 4294967296 + third / 10)) ≡ sizeOf (words h l) / 10
+  unfolding sizeOf
   tenth = omega arith
 
-  pub last : third % 10 ≡ value (words h l) % 10
-  unfolding value
+  pub last : third % 10 ≡ sizeOf (words h l) % 10
+  unfolding sizeOf
   last = omega (arith, tenth)
 
   pub second-fits : l < 2 ^ 64 → second < 2 ^ 64
@@ -76,18 +50,18 @@ module _ (h l : ℕ) where
 below-square : (B h l : ℕ) → h < B → l < B → h * B + l < B * B
 below-square B h l p q = let m : suc h * B ≤ B * B = mul-le-mul-right B p in omega arith
 
-pub value-below : (w : Wide) → w .hi < 2 ^ 64 → w .lo < 2 ^ 64 → value w < 10 ^ 39
-unfolding value
+pub value-below : (w : Size) → w .hi < 2 ^ 64 → w .lo < 2 ^ 64 → sizeOf w < 10 ^ 39
+unfolding sizeOf
 value-below w p q = lt-of-lt-of-le (below-square (2 ^ 64) (w .hi) (w .lo) p q) (lit≤ tt)
 
 -- a number below 10 is its lower word
-pub value-one : (w : Wide) → value w < 10 → w .lo ≡ value w
-unfolding value
+pub value-one : (w : Size) → sizeOf w < 10 → w .lo ≡ sizeOf w
+unfolding sizeOf
 value-one w h = omega arith
 
 -- and fits a byte, as does its character
-pub digit-fits : (w : Wide) → value w < 10 → (w .lo < 256) × (48 + w .lo < 256)
-unfolding value
+pub digit-fits : (w : Size) → sizeOf w < 10 → (w .lo < 256) × (48 + w .lo < 256)
+unfolding sizeOf
 digit-fits w h = (omega arith, omega arith)
 
 -- with a digit fewer, a place fewer

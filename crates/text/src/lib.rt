@@ -5,7 +5,6 @@ mod write;
 
 pub use hex::Hex;
 pub use hex::unhex;
-pub use wide::Wide;
 pub use wide::put_wide;
 pub use write::put_byte;
 pub use write::put_bytes;

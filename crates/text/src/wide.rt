@@ -1,42 +1,23 @@
-// Numbers of two 64-bit words, and their decimal digits.
-ghost use Prim.Native.Nat.{_+_, _/_, _%_, _≤_};
+// The decimal digits of numbers of two 64-bit words.
+ghost use Prim.Native.Nat.{_/_, _%_, _≤_};
 ghost use mathlib.Core.Path.{_≡_};
 ghost use lib.Dec.{leb};
 ghost use lib.ListN.{length, drop};
 ghost use Rattle.text.specs.Decimal.{decimal};
-ghost use Rattle.text.specs.Wide.{value, wideOf};
+ghost use Rattle.words.specs.Meaning.{sizeOf};
 ghost use Rattle.text.specs.Written.{written, after};
 use crate::write::put_bytes;
-
-pub struct Wide {
-    pub hi: u64,
-    pub lo: u64,
-}
+use words::Size;
 
 // A tenth of a number, rounded down, and its last digit.
 struct Tenth {
-    quotient: Wide,
+    quotient: Size,
     digit: u8,
 }
 
-impl Wide {
-    // n more; from 2^128 on it begins at 0 again.
-    pub fn plus(self, n: u64) -> Wide
-        ensures { λ r. ⌜ r ≡ wideOf (value self + n) ⌝ }
-    {
-        let lo = std::num::wrapping_add_u64(self.lo, n);
-        if lo < n {
-            let hi = std::num::wrapping_add_u64(self.hi, 1);
-            Wide { hi, lo }
-        } else {
-            Wide { hi: self.hi, lo }
-        }
-    }
-}
-
 // The decimal digits of n, and the place after them.
-pub fn put_wide(out: &mut [u8], at: usize, n: Wide) -> usize
-    ensures { λ r. ⌜ (now (out .exit) ≡ written (now (out .entry)) at (decimal (value n))) × (r ≡ after (now (out .entry)) at (decimal (value n))) ⌝ }
+pub fn put_wide(out: &mut [u8], at: usize, n: Size) -> usize
+    ensures { λ r. ⌜ (now (out .exit) ≡ written (now (out .entry)) at (decimal (sizeOf n))) × (r ≡ after (now (out .entry)) at (decimal (sizeOf n))) ⌝ }
 {
     let mut digits = [0u8; 39];
     let first = spell(n, &mut digits);
@@ -44,9 +25,9 @@ pub fn put_wide(out: &mut [u8], at: usize, n: Wide) -> usize
 }
 
 // The decimal digits of n at the end of digits, and the place of the first.
-fn spell(n: Wide, digits: &mut [u8]) -> usize
+fn spell(n: Size, digits: &mut [u8]) -> usize
     requires { ⌜ length (now digits) ≡ 39 ⌝ }
-    ensures { λ r. ⌜ (r ≤ 39) × (drop r (now (digits .exit)) ≡ decimal (value n)) ⌝ }
+    ensures { λ r. ⌜ (r ≤ 39) × (drop r (now (digits .exit)) ≡ decimal (sizeOf n)) ⌝ }
 {
     let mut i = 39;
     let mut rest = n;
@@ -62,18 +43,18 @@ fn spell(n: Wide, digits: &mut [u8]) -> usize
 }
 
 // Whether a number has more than one digit.
-fn has_tens(n: Wide) -> bool
-    ensures { λ r. ⌜ r ≡ leb 10 (value n) ⌝ }
+fn has_tens(n: Size) -> bool
+    ensures { λ r. ⌜ r ≡ leb 10 (sizeOf n) ⌝ }
 {
     if 0 < n.hi { true } else { 10 <= n.lo }
 }
 
-fn divided(n: Wide) -> Tenth
-    ensures { λ r. ⌜ (value (r .quotient) ≡ value n / 10) × (r .digit ≡ value n % 10) ⌝ }
+fn divided(n: Size) -> Tenth
+    ensures { λ r. ⌜ (sizeOf (r .quotient) ≡ sizeOf n / 10) × (r .digit ≡ sizeOf n % 10) ⌝ }
 {
     let upper = n.hi % 10 * 0x1_0000_0000 + n.lo / 0x1_0000_0000;
     let lower = upper % 10 * 0x1_0000_0000 + n.lo % 0x1_0000_0000;
-    let quotient = Wide {
+    let quotient = Size {
         hi: n.hi / 10,
         lo: upper / 10 * 0x1_0000_0000 + lower / 10,
     };

@@ -1,6 +1,6 @@
 -- `start` meets its contract. Assumes nothing.
 use mathlib.Core.Path.{sym, ap, _∙_}
-use Rattle.text.specs.Wide.{value}
+use Rattle.words.specs.Meaning.{sizeOf}
 use Rattle.input.specs.Load.{loadedOf}
 use Rattle.printing.specs.Pieces.{begin}
 use borrow.Author.Needs.{needs}
@@ -26,7 +26,7 @@ returns-2 : tie.Need-returns-2
 returns-2 c = ap begin (ap loadedOf (sym (c .before .input .given .1)) ∙ c .before .before .before .load .ensures)
 
 returns-3 : tie.Need-returns-3
-unfolding value
+unfolding sizeOf
 returns-3 c = ap begin (ap loadedOf (sym (c .before .input2 .given .1)) ∙ c .before .before .before .load .ensures)
 
 pub start-spec : {M : Type 1} → statement M

@@ -8,7 +8,7 @@ use mir.Val.{Fits}
 use lib.Seq.{length-take-le}
 use Rattle.text.specs.Append.{appended, append-more, marked}
 use Rattle.text.specs.Decimal.{decimal}
-use Rattle.text.specs.Wide.{value}
+use Rattle.words.specs.Meaning.{sizeOf}
 use Rattle.text.proofs.Lengths.{decimal-length}
 use Rattle.text.proofs.Words.{value-below}
 use Rattle.listing.specs.Lines.{endLine, countText}
@@ -43,7 +43,7 @@ returns c =
     let s = p .before .before .before .before in
     let xs = s .args .line .now in
     let pre = s .pre in
-    let v = value (s .args .n) in
+    let v = sizeOf (s .args .n) in
     let h : Fits w64 (s .args .n .hi) = search needs in
     let l : Fits w64 (s .args .n .lo) = search needs in
     let d = decimal-length 38 v (value-below (s .args .n) (h .fits) (l .fits)) in

@@ -3,7 +3,7 @@ use Prim.Native.Nat.{ℕ, _+_}
 use mathlib.Core.Path.{_≡_, sym, ap, ap₂, _∙_}
 use lib.ListN.{length}
 use Rattle.session.specs.Session.{meaning}
-use Rattle.text.specs.Wide.{value, wideOf}
+use Rattle.words.specs.Meaning.{sizeOf, wrapped}
 use Rattle.listing.specs.Lines.{pageOf, roomIn}
 use Rattle.printing.specs.Pieces.{list, last, kept}
 use borrow.Author.Needs.{needs}
@@ -22,9 +22,9 @@ same-length c = search needs
 returns : tie.Need-returns
 returns c =
     let p = c .before .before .before .before .before .next .ensures in
-    let t = value (c .before .before .before .before .before .before .before .before .args .total) in
+    let t = sizeOf (c .before .before .before .before .before .before .before .before .args .total) in
     let more = sym (p .more) ∙ c .if1 .taken in
-    record { text = p .text; next = rw more (ap₂ list (p .session) (ap value (c .before .plus .ensures) ∙ ap (λ (k : ℕ). kept (t + k)) (p .count))) }
+    record { text = p .text; next = rw more (ap₂ list (p .session) (ap sizeOf (c .before .plus .ensures) ∙ ap (λ (k : ℕ). kept (t + k)) (p .count))) }
 
 same-length-2 : tie.Need-same-length-2
 same-length-2 c = search needs
@@ -32,9 +32,9 @@ same-length-2 c = search needs
 returns-2 : tie.Need-returns-2
 returns-2 c =
     let p = c .before .before .before .before .before .next .ensures in
-    let t = value (c .before .before .before .before .before .before .before .before .args .total) in
+    let t = sizeOf (c .before .before .before .before .before .before .before .before .args .total) in
     let more = sym (p .more) ∙ c .if1 .left in
-    record { text = p .text; next = rw more (ap last (ap value (c .before .plus .ensures) ∙ ap (λ (k : ℕ). kept (t + k)) (p .count))) }
+    record { text = p .text; next = rw more (ap last (ap sizeOf (c .before .plus .ensures) ∙ ap (λ (k : ℕ). kept (t + k)) (p .count))) }
 
 pub page-spec : {M : Type 1} → statement M
 page-spec =

@@ -6,7 +6,7 @@ use borrow.Author.Needs.{needs}
 use lib.ListN.{length, take, drop, length-drop}
 use lib.Seq.{take-all}
 use Rattle.text.specs.Decimal.{decimal}
-use Rattle.text.specs.Wide.{value}
+use Rattle.words.specs.Meaning.{sizeOf}
 use Rattle.text.proofs.wide.put_wide.Statement.{statement}
 use Rattle.text.proofs.wide.put_wide.Tie as tie
 
@@ -38,7 +38,7 @@ returns c =
     let r = s .spell .result in
     let d = s .spell .last .1 .0 in
     let l : length d ≡ 39 = search needs in
-    let t : take (39 - r) (drop r d) ≡ decimal (value (s .before .before .before .args .n)) = take-all (39 - r) (drop r d) (rw (length-drop r d, l) (omega arith)) ∙ s .spell .ensures .1 in
+    let t : take (39 - r) (drop r d) ≡ decimal (sizeOf (s .before .before .before .args .n)) = take-all (39 - r) (drop r d) (rw (length-drop r d, l) (omega arith)) ∙ s .spell .ensures .1 in
     rw t at (p .put-bytes .ensures)
 
 pub put-wide-spec : {M : Type 1} → statement M

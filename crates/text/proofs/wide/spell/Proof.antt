@@ -10,13 +10,13 @@ use borrow.Author.Needs.{needs}
 use borrow.Author.Tests.{leb-true, leb-false}
 use lib.ListN.{length, drop, length-set}
 use Rattle.text.specs.Decimal.{decimal}
-use Rattle.text.specs.Wide.{value}
+use Rattle.words.specs.Meaning.{sizeOf}
 use Rattle.text.proofs.Words.{value-below, value-one, digit-fits, fewer, spelt-more, spelt, spelt-none}
 use Rattle.text.proofs.wide.spell.Statement.{statement}
 use Rattle.text.proofs.wide.spell.Tie as tie
 
 abbrev Inv-loop : tie.InvT-loop
-Inv-loop digits₀ i₀ rest₀ digits i rest = (1 ≤ i) × (i ≤ 39) × (length digits ≡ 39) × (value rest < 10 ^ i) × (decimal (value rest₀) ≡ decimal (value rest) ++ drop i digits)
+Inv-loop digits₀ i₀ rest₀ digits i rest = (1 ≤ i) × (i ≤ 39) × (length digits ≡ 39) × (sizeOf rest < 10 ^ i) × (decimal (sizeOf rest₀) ≡ decimal (sizeOf rest) ++ drop i digits)
 
 abbrev μ-loop : tie.MeasureT-loop
 μ-loop digits₀ i₀ rest₀ digits i rest = i
@@ -27,7 +27,7 @@ loop-holds c =
     let n = s .args .n in
     let h : Fits w64 (n .hi) = search needs in
     let l : Fits w64 (n .lo) = search needs in
-    (search needs, search needs, s .pre, value-below n (h .fits) (l .fits), spelt-none (value n) (s .args .digits .now) 39 (le-of-eq (s .pre)))
+    (search needs, search needs, s .pre, value-below n (h .fits) (l .fits), spelt-none (sizeOf n) (s .args .digits .now) 39 (le-of-eq (s .pre)))
 
 has-tens-requires : tie.Need-has-tens-requires Inv-loop μ-loop
 has-tens-requires c κs = search needs
@@ -53,8 +53,8 @@ loop-again c =
     let h = t .before .before in
     let l = h .before in
     let inv = l .loop .inv in
-    let n = value (l .before .before .args .n) in
-    let rest = value (l .loop .rest) in
+    let n = sizeOf (l .before .before .args .n) in
+    let rest = sizeOf (l .loop .rest) in
     let tens : 10 ≤ rest = leb-true 10 rest (sym (h .has-tens .ensures) ∙ t .before .if1 .taken) in
     let f = fewer (l .loop .i) rest tens (inv .3) in (
       omega arith,
@@ -68,10 +68,10 @@ sub-i-2 : tie.Need-sub-i-2 Inv-loop μ-loop
 sub-i-2 c = search needs
 
 -- what is left has one digit
-one : (c : tie.After-struct-known2 Inv-loop μ-loop) → value (c .before .before .before .loop .rest) < 10
+one : (c : tie.After-struct-known2 Inv-loop μ-loop) → sizeOf (c .before .before .before .loop .rest) < 10
 one c =
     let h = c .before .before in
-    leb-false 10 (value (h .before .loop .rest)) (sym (h .has-tens .ensures) ∙ c .before .if1 .left)
+    leb-false 10 (sizeOf (h .before .loop .rest)) (sym (h .has-tens .ensures) ∙ c .before .if1 .left)
 
 cast-digits : tie.Need-cast-digits Inv-loop μ-loop
 cast-digits c = record { fits = digit-fits (c .before .before .before .loop .rest) (one c) .0 }
@@ -89,8 +89,8 @@ returns : tie.Need-returns Inv-loop μ-loop
 returns c =
     let l = c .before .before .before in
     let inv = l .loop .inv in
-    let n = value (l .before .before .args .n) in
-    (omega arith, rw (value-one (l .loop .rest) (one c)) (spelt n (value (l .loop .rest)) (l .loop .digits) (l .loop .i) (inv .0) (omega arith) (inv .4) (one c)))
+    let n = sizeOf (l .before .before .args .n) in
+    (omega arith, rw (value-one (l .loop .rest) (one c)) (spelt n (sizeOf (l .loop .rest)) (l .loop .digits) (l .loop .i) (inv .0) (omega arith) (inv .4) (one c)))
 
 pub spell-spec : {M : Type 1} → statement M
 spell-spec =

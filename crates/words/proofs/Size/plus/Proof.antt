@@ -2,9 +2,9 @@
 use mir.Syntax.{w64}
 use mir.Val.{Fits}
 use borrow.Author.Needs.{needs}
-use Rattle.text.proofs.Words.{plus-carried, plus-plain}
-use Rattle.text.proofs.wide.Wide.plus.Statement.{statement}
-use Rattle.text.proofs.wide.Wide.plus.Tie as tie
+use Rattle.words.specs.Wrapped.{plus-carried, plus-plain}
+use Rattle.words.proofs.Size.plus.Statement.{statement}
+use Rattle.words.proofs.Size.plus.Tie as tie
 
 wrapping-add-u64-requires : tie.Need-wrapping-add-u64-requires
 wrapping-add-u64-requires c κs = search needs
