@@ -21,13 +21,16 @@ use Rattle.listing.specs.Lines.{endLine, refusalLine, countText}
 use Rattle.printing.specs.declared.Piece.{Piece}
 use Rattle.printing.specs.Pieces.{State, done, Part, stateOf, partOf, pieceOf, Filled, FilledPart}
 
+-- nothing at the start of a slice
+none-appended : (xs : List ℕ) → Appended xs 0 [] xs 0
+none-appended xs = record { text = refl; end = refl; same = refl; past = refl }
+
 -- ---- a slice without room for a line, and one with it
 pub filled-none : (s : State) (r : Piece) (xs : List ℕ) → length xs < 126 → r .length ≡ 0 → stateOf (r .next) ≡ s → Filled s r xs xs
 unfolding pieceOf
 filled-none s r xs h e f =
     let t = lt-ltb (length xs) 126 h in
-    let none : Appended xs 0 [] xs 0 = record { text = refl; end = refl; same = refl; past = refl } in
-    record { text = rw (t, e) none; next = rw t f }
+    record { text = rw (t, e) (none-appended xs); next = rw t f }
 
 pub filled-part : (s : State) (r : Piece) (old new : List ℕ) → 126 ≤ length old → FilledPart s r old new → Filled s r old new
 unfolding pieceOf
@@ -43,8 +46,7 @@ line-part s r old mid line n e l h p q =
 
 pub none-part : (s : State) (r : Piece) (xs : List ℕ) → partOf (length xs) s ≡ record { text = []; next = done } → (stateOf (r .next) ≡ done) × (r .length ≡ 0) → FilledPart s r xs xs
 none-part s r xs e q =
-    let none : Appended xs 0 [] xs 0 = record { text = refl; end = refl; same = refl; past = refl } in
-    let b = subst (λ (x : Part). Appended xs 0 (x .text) xs 0) (sym e) none in
+    let b = subst (λ (x : Part). Appended xs 0 (x .text) xs 0) (sym e) (none-appended xs) in
     record { text = subst (λ (i : ℕ). Appended xs 0 (partOf (length xs) s .text) xs i) (sym (q .1)) b; next = q .0 ∙ sym (ap (λ (x : Part). x .next) e) }
 
 -- ---- lengths
