@@ -14,7 +14,7 @@ pub fn compare(s: &[u8]) -> Tally {
     t
 }
 
-fn right(n: [i64; 64]) -> bool {
+fn right(n: [i64; row::WIDTH]) -> bool {
     if !integers::is_nonneg(n[0]) {
         return false;
     }

@@ -1,7 +1,9 @@
 // Compares tables of another implementation (data/, one row a line) with what the library answers, and prints how many rows differ; then numbers of two words about 2^64 and 2^128.
 ghost use Rattle.io.specs.Counts.{Counts};
 
+mod entries;
 mod exponent;
+mod handed;
 mod lines;
 mod operators;
 mod row;
@@ -23,6 +25,8 @@ fn main() {
     report(b"apply", operators::compare_images(&space[..n]));
     let n = load(b"line.txt", &mut space);
     report(b"line", lines::compare(&space[..n]));
+    let n = load(b"entry.txt", &mut space);
+    report(b"entry", entries::compare(&space[..n]));
     print_wide(0, 18446744073709551615);
     print_wide(1, 0);
     print_wide(18446744073709551615, 18446744073709551615);

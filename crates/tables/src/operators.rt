@@ -35,7 +35,7 @@ pub fn compare_images(s: &[u8]) -> Tally {
     t
 }
 
-fn check_right(n: [i64; 64]) -> bool {
+fn check_right(n: [i64; row::WIDTH]) -> bool {
     let Eight::Operator(g) = operator_of(n[0], n[1], n[2], n[3], n[4], n[5], n[6], n[7]) else {
         return false;
     };
@@ -51,7 +51,7 @@ fn number(c: Check) -> i64 {
     }
 }
 
-fn image_right(n: [i64; 64]) -> bool {
+fn image_right(n: [i64; row::WIDTH]) -> bool {
     let Eight::Operator(g) = operator_of(n[0], n[1], n[2], n[3], n[4], n[5], n[6], n[7]) else {
         return false;
     };
@@ -63,7 +63,7 @@ fn image_right(n: [i64; 64]) -> bool {
 }
 
 // Whether g sends the row's point to the row's image.
-fn sends(g: Operator, n: [i64; 64]) -> bool {
+fn sends(g: Operator, n: [i64; row::WIDTH]) -> bool {
     let Four::Point(v) = row::point_of(n[8], n[9], n[10], n[11]) else {
         return false;
     };

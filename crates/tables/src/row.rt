@@ -5,15 +5,18 @@ use integers::Narrow;
 use ring::Point;
 use scan::Number;
 
+// How many numbers of a line are kept.
+pub const WIDTH: usize = 144;
+
 // How many rows there were, and how many of them differ.
 pub struct Tally {
     pub rows: u64,
     pub different: u64,
 }
 
-// The first 64 numbers of a line, how many there are, how many of them stood before each of the first four bars, and the place after the line.
+// The first numbers of a line, how many there are, how many of them stood before each of the first four bars, and the place after the line.
 pub struct Row {
-    pub numbers: [i64; 64],
+    pub numbers: [i64; WIDTH],
     pub count: usize,
     pub before: [usize; 4],
     pub next: usize,
@@ -43,7 +46,7 @@ impl Tally {
 // The numbers of the line at `at`, whatever stands between them.
 pub fn row_at(s: &[u8], at: usize) -> Row {
     let end = scan::line_end(s, at);
-    let mut numbers = [0i64; 64];
+    let mut numbers = [0i64; WIDTH];
     let mut count = 0;
     let mut before = [0usize; 4];
     let mut bars = 0;
@@ -51,7 +54,7 @@ pub fn row_at(s: &[u8], at: usize) -> Row {
     while i < end {
         let mut next = i + 1;
         if let Number::Value(value, after) = scan::number_at(s, i) {
-            if count < 64 {
+            if count < WIDTH {
                 numbers[count] = value;
                 count += 1;
             }

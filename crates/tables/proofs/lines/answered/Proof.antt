@@ -1,6 +1,5 @@
 use mathlib.Core.Path.{sym}
 use lib.Seq.{length-take-le}
-use Prim.Native.Nat.{_-_}
 use borrow.Author.Needs.{needs}
 use Rattle.tables.proofs.lines.answered.Statement.{statement}
 use Rattle.tables.proofs.lines.answered.Tie as tie
@@ -74,17 +73,20 @@ array-copy-out-result c = search needs
 enum-known-count : tie.Need-enum-known-count
 enum-known-count c = search needs
 
-add-handed : tie.Need-add-handed
-add-handed c = search needs
-
-handed-requires : tie.Need-handed-requires
-handed-requires c κs = search needs
-
 same-length : tie.Need-same-length
 same-length c = search needs
 
 returns-4 : tie.Need-returns-4
 returns-4 c = search needs
+
+mul-n : tie.Need-mul-n
+mul-n c = search needs
+
+add-are : tie.Need-add-are
+add-are c = search needs
+
+are-requires : tie.Need-are-requires
+are-requires c κs = search needs
 
 same-length-2 : tie.Need-same-length-2
 same-length-2 c = search needs
@@ -103,6 +105,12 @@ same-length-4 c = search needs
 
 returns-7 : tie.Need-returns-7
 returns-7 c = search needs
+
+same-length-5 : tie.Need-same-length-5
+same-length-5 c = search needs
+
+returns-8 : tie.Need-returns-8
+returns-8 c = search needs
 
 pub answered-spec : {M : Type 1} → statement M
 answered-spec =
@@ -131,13 +139,16 @@ answered-spec =
     mul-result
     array-copy-out-result
     enum-known-count
-    add-handed
-    handed-requires
     same-length
     returns-4
+    mul-n
+    add-are
+    are-requires
     same-length-2
     returns-5
     same-length-3
     returns-6
     same-length-4
-    returns-7)
+    returns-7
+    same-length-5
+    returns-8)

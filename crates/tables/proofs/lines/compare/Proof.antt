@@ -19,11 +19,8 @@ loop-holds c = search needs
 row-at-requires : tie.Need-row-at-requires Inv-loop μ-loop
 row-at-requires c κs = search needs
 
-has-requires : tie.Need-has-requires Inv-loop μ-loop
-has-requires c κs = search needs
-
-has-requires-2 : tie.Need-has-requires-2 Inv-loop μ-loop
-has-requires-2 c κs = search needs
+read-requires : tie.Need-read-requires Inv-loop μ-loop
+read-requires c κs = search needs
 
 slice-aggregate-right : tie.Need-slice-aggregate-right Inv-loop μ-loop
 slice-aggregate-right c = search needs
@@ -55,8 +52,7 @@ compare-spec =
     new-requires
     loop-holds
     row-at-requires
-    has-requires
-    has-requires-2
+    read-requires
     slice-aggregate-right
     right-requires
     with-requires

@@ -1,19 +1,19 @@
 use Prim.Native.Nat.{_-_}
 use borrow.Author.Needs.{needs}
-use Rattle.tables.proofs.lines.has.Statement.{statement}
-use Rattle.tables.proofs.lines.has.Tie as tie
+use Rattle.tables.proofs.handed.same.Statement.{statement}
+use Rattle.tables.proofs.handed.same.Tie as tie
 
 abbrev Inv-loop : tie.InvT-loop
-Inv-loop s at end byte i₀ i = Unit {0}
+Inv-loop out numbers from n i₀ i = Unit {0}
 
 abbrev μ-loop : tie.MeasureT-loop
-μ-loop s at end byte i₀ i = end - i
+μ-loop out numbers from n i₀ i = n - i
 
 loop-holds : tie.Need-loop-holds Inv-loop μ-loop
 loop-holds c = search needs
 
-shared-slice-read-if2 : tie.Need-shared-slice-read-if2 Inv-loop μ-loop
-shared-slice-read-if2 c = search needs
+same-at-requires : tie.Need-same-at-requires Inv-loop μ-loop
+same-at-requires c κs = search needs
 
 returns : tie.Need-returns Inv-loop μ-loop
 returns c = search needs
@@ -30,20 +30,16 @@ loop-again c = search needs
 returns-2 : tie.Need-returns-2 Inv-loop μ-loop
 returns-2 c = search needs
 
-returns-3 : tie.Need-returns-3 Inv-loop μ-loop
-returns-3 c = search needs
-
-pub has-spec : {M : Type 1} → statement M
-has-spec =
+pub same-spec : {M : Type 1} → statement M
+same-spec =
     tie.close
     (tie.spec
     Inv-loop
     μ-loop
     loop-holds
-    shared-slice-read-if2
+    same-at-requires
     returns
     add-i
     loop-less
     loop-again
-    returns-2
-    returns-3)
+    returns-2)
