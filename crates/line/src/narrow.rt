@@ -58,9 +58,10 @@ fn skip(first: Interval, second: Interval, a: u64) -> u64
     let t = search::strip(second);
     if steps::is_within(t, 1) {
         let o = alpha0(s, t);
-        let u = steps::power(steps::exponent(t));
         let x = steps::shift(t, conjugate(o));
-        let f = steps::scale(steps::shift(s, o), u);
+        let y = steps::shift(s, o);
+        let u = steps::power(steps::exponent(t));
+        let f = steps::scale(y, u);
         let g = steps::scale(x, conjugate(u));
         if steps::is_within(g, 2) {
             let w = rows(x, g, o, u, a, search::last_row(s, t));
