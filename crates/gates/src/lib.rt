@@ -1,0 +1,10 @@
+// Gate words: document 02, Ticket 6.
+mod letters;
+mod parity;
+mod points;
+mod spell;
+mod states;
+mod tails;
+
+pub use letters::Word;
+pub use spell::word;

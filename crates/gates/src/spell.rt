@@ -1,0 +1,96 @@
+// The word of a matrix.
+ghost use mathlib.Core.Path.{_≡_};
+ghost use mathlib.Core.List.{_++_};
+ghost use Prim.Native.Nat.{_+_, _*_, _^_, _<_, _≤_};
+ghost use Rattle.ranges.specs.Ranges.{topScale};
+ghost use Rattle.spelling.specs.State.{Equation, isPlain, isBare, Stage, Ready};
+ghost use Rattle.spelling.specs.Word.{syllables, without-T, bareAtZero, body, word};
+ghost use Rattle.gates.specs.Written.{written, bytes, Writes};
+use crate::letters::Word;
+use crate::letters::empty;
+use crate::letters::push;
+use crate::letters::syllable;
+use crate::parity::bare;
+use crate::parity::odd;
+use crate::parity::parities;
+use crate::parity::plain;
+use crate::points::over_omega;
+use crate::states::next;
+use crate::states::reduce;
+use crate::tails::tail;
+use ring::Point;
+use spelling::State;
+
+// No T in front; for a Clifford matrix there is none.
+fn is_plain(s: State) -> bool
+    ensures { λ r. ⌜ r ≡ bareAtZero s ⌝ }
+{
+    if s.k == 0 {
+        return true;
+    }
+    plain(parities(s.u), parities(s.t))
+}
+
+// No S in front.
+fn is_bare(s: State) -> bool
+    ensures { λ r. ⌜ r ≡ isBare s ⌝ }
+{
+    bare(parities(s.u), parities(s.t))
+}
+
+// How many times HT or SHT, of a state without a T in front.
+fn syllables(s: State) -> u32
+    requires { ⌜ Stage (syllables s) s × (s .k ≤ topScale) × (s .l < 2 ^ 31) ⌝ }
+    ensures { λ r. ⌜ r ≡ syllables s ⌝ }
+{
+    if s.k == 0 {
+        return 0;
+    }
+    if odd(parities(s.u)) {
+        return 2 * s.k - 2 + s.l % 2;
+    }
+    2 * s.k - 3 + (s.l + 1) % 2
+}
+
+// T taken off the front.
+fn without_t(s: State) -> State
+    requires { ⌜ Equation (s .k) (s .u) (s .t) × (s .k ≤ topScale) × (s .l < 2 ^ 31) ⌝ }
+    ensures { λ r. ⌜ r ≡ without-T s ⌝ }
+{
+    let t = over_omega(s.t);
+    State {
+        k: s.k,
+        u: s.u,
+        t: t,
+        l: s.l + 7,
+    }
+}
+
+// r syllables and the tail, written behind w.
+fn body(w: Word, s: State, r: u32) -> Word
+    requires { ⌜ Ready r s × (s .k ≤ topScale) × (s .l + 3 * r < 2 ^ 31) × (w .len + (3 * r + 10) ≤ 128) ⌝ }
+    ensures { λ o. ⌜ (written o ≡ written w ++ bytes (body r s)) × (o .len ≤ 128) ⌝ }
+{
+    let mut out = w;
+    let mut x = s;
+    let mut n = r;
+    while 0 < n {
+        out = syllable(out, is_bare(x));
+        x = next(x);
+        n -= 1;
+    }
+    tail(out, x)
+}
+
+// The word of the matrix with rows (u, −t†) and (t, u†) over √2^k.
+pub fn word(k: u32, u: Point, t: Point) -> Word
+    requires { ⌜ Equation k u t × (k ≤ topScale) ⌝ }
+    ensures { λ r. ⌜ Writes r (word k u t) ⌝ }
+{
+    let s = reduce(k, u, t);
+    if is_plain(s) {
+        return body(empty(), s, syllables(s));
+    }
+    let x = without_t(s);
+    body(push(empty(), b'T'), x, syllables(x))
+}
