@@ -3,3 +3,5 @@ pub mod Asked
 pub mod Fit
 pub mod Place
 pub mod Written
+pub mod Going
+pub mod Start

@@ -4,7 +4,7 @@ ghost use mathlib.Core.List.{[], _∷_, _++_};
 ghost use Prim.Native.Nat.{_+_, _<_, _≤_};
 ghost use Rattle.spelling.specs.Table.{letter, unpack};
 ghost use Rattle.spelling.specs.Word.{syllable};
-ghost use Rattle.gates.specs.Written.{written, byte, bytes};
+ghost use Rattle.gates.specs.Written.{written, byte, Adds};
 
 // The letters of a word, the first `len` of the array.
 pub struct Word {
@@ -38,7 +38,7 @@ pub(crate) fn push(w: Word, b: u8) -> Word
 // HT, or SHT.
 pub(crate) fn syllable(w: Word, bare: bool) -> Word
     requires { ⌜ w .len + 3 ≤ 128 ⌝ }
-    ensures { λ r. ⌜ (written r ≡ written w ++ bytes (syllable bare)) × (r .len ≤ w .len + 3) ⌝ }
+    ensures { λ r. ⌜ Adds w (syllable bare) r ⌝ }
 {
     if bare {
         return push(push(w, b'H'), b'T');
@@ -61,7 +61,7 @@ fn letter_byte(d: u32) -> u8
 // The last n letters of the word of c, first letter highest.
 pub(crate) fn unpack(w: Word, n: usize, c: u32) -> Word
     requires { ⌜ w .len + n ≤ 128 ⌝ }
-    ensures { λ r. ⌜ (written r ≡ written w ++ bytes (unpack n c [])) × (r .len ≤ w .len + n) ⌝ }
+    ensures { λ r. ⌜ Adds w (unpack n c []) r ⌝ }
 {
     if n == 0 {
         return w;

@@ -1,11 +1,11 @@
 // The word of a matrix.
 ghost use mathlib.Core.Path.{_≡_};
-ghost use mathlib.Core.List.{_++_};
-ghost use Prim.Native.Nat.{_+_, _*_, _^_, _<_, _≤_};
+ghost use Prim.Native.Nat.{_^_, _<_, _≤_};
 ghost use Rattle.ranges.specs.Ranges.{topScale};
-ghost use Rattle.spelling.specs.State.{Equation, isPlain, isBare, Stage, Ready};
+ghost use Rattle.spelling.specs.State.{Equation, isBare, Stage};
 ghost use Rattle.spelling.specs.Word.{syllables, without-T, bareAtZero, body, word};
-ghost use Rattle.gates.specs.Written.{written, bytes, Writes};
+ghost use Rattle.gates.specs.Written.{Adds, Writes};
+ghost use Rattle.gates.specs.Going.{Going};
 use crate::letters::Word;
 use crate::letters::empty;
 use crate::letters::push;
@@ -57,10 +57,11 @@ fn without_t(s: State) -> State
     requires { ⌜ Equation (s .k) (s .u) (s .t) × (s .k ≤ topScale) × (s .l < 2 ^ 31) ⌝ }
     ensures { λ r. ⌜ r ≡ without-T s ⌝ }
 {
+    let u = s.u;
     let t = over_omega(s.t);
     State {
         k: s.k,
-        u: s.u,
+        u: u,
         t: t,
         l: s.l + 7,
     }
@@ -68,8 +69,8 @@ fn without_t(s: State) -> State
 
 // r syllables and the tail, written behind w.
 fn body(w: Word, s: State, r: u32) -> Word
-    requires { ⌜ Ready r s × (s .k ≤ topScale) × (s .l + 3 * r < 2 ^ 31) × (w .len + (3 * r + 10) ≤ 128) ⌝ }
-    ensures { λ o. ⌜ (written o ≡ written w ++ bytes (body r s)) × (o .len ≤ 128) ⌝ }
+    requires { ⌜ Going r s w ⌝ }
+    ensures { λ o. ⌜ Adds w (body r s) o ⌝ }
 {
     let mut out = w;
     let mut x = s;

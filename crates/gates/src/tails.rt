@@ -1,11 +1,10 @@
 // The tails: a word in H, S and W for each of the 192 Clifford matrices with phase.
 ghost use mathlib.Core.Path.{_≡_};
-ghost use mathlib.Core.List.{[], _++_};
-ghost use Prim.Native.Nat.{_+_, _/_, _%_, _<_, _≤_};
+ghost use Prim.Native.Nat.{_+_, _<_, _≤_};
 ghost use lib.ListN.{getD};
 ghost use Rattle.spelling.specs.Bits.{pick};
 ghost use Rattle.spelling.specs.Table.{positive, negative, log, index, tails, tail};
-ghost use Rattle.gates.specs.Written.{written, bytes};
+ghost use Rattle.gates.specs.Written.{Adds};
 use crate::letters::Word;
 use crate::letters::unpack;
 use ring::Point;
@@ -275,7 +274,7 @@ fn entry(i: usize) -> u32
 // The tail of a state, written behind w.
 pub(crate) fn tail(w: Word, s: State) -> Word
     requires { ⌜ w .len + 10 ≤ 128 ⌝ }
-    ensures { λ r. ⌜ (written r ≡ written w ++ bytes (tail s)) × (r .len ≤ w .len + 10) ⌝ }
+    ensures { λ r. ⌜ Adds w (tail s) r ⌝ }
 {
     let m = (s.l % 8 / 2) as usize;
     unpack(w, 10, entry(index(s.u, s.t, m)))

@@ -21,7 +21,7 @@ use Rattle.spelling.specs.Number.{starts, starts-T}
 use Rattle.spelling.specs.Base.{sq, N-squares, pos-is}
 
 -- ---- letters
-unpack-length : (n c : ℕ) (w : List Letter) → length (unpack n c w) ≤ n + length w
+pub unpack-length : (n c : ℕ) (w : List Letter) → length (unpack n c w) ≤ n + length w
 unpack-length zero c w = omega arith
 unpack-length (suc n) zero w = omega arith
 unpack-length (suc n) (suc c) w = omega (arith, unpack-length n (suc c / 4) (letter (suc c % 4) ∷ w))
@@ -35,12 +35,12 @@ body-length (suc r) s = go (isBare s) (body-length r (next s))
     go true h = omega arith
     go false h = omega arith
 
-stage-small : (r : ℕ) (s : State) → s .k ≤ topScale → Stage r s → r ≤ 39
+pub stage-small : (r : ℕ) (s : State) → s .k ≤ topScale → Stage r s → r ≤ 39
 stage-small r s h (last k l n) = omega arith
 stage-small r s h (odds k o p n) = omega arith
 stage-small r s h (sides k o p n) = omega arith
 
-reduced-k : (k : ℕ) (u t : Point) → reduced k u t .k ≤ k
+pub reduced-k : (k : ℕ) (u t : Point) → reduced k u t .k ≤ k
 unfolding reduced
 reduced-k zero u t = omega arith
 reduced-k (suc k) u t = go (divideRoot2 u) (λ x y. reduced-k k x y)

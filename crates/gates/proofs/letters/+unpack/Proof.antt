@@ -3,7 +3,8 @@ use mathlib.Core.List.{[], _∷_, _++_, append-assoc}
 use Prim.Native.Nat.{_-_, _/_, _%_}
 use native.Mathlib.Omega.{arith}
 use Rattle.spelling.specs.Table.{letter, unpack as unpack′}
-use Rattle.gates.specs.Written.{written, byte, bytes, append-nil, unpack-none, unpack-zero, unpack-more}
+use Rattle.gates.specs.Written.{written, byte, bytes, append-nil, unpack-none, unpack-zero, unpack-more, none-length, more-length}
+use Rattle.spelling.specs.Length.{unpack-length}
 use borrow.Author.Needs.{needs}
 use Prim.Native.Nat.{ℕ, _<_}
 use borrow.Fn.Kinds.{In}
@@ -35,7 +36,8 @@ unpack-returns : (t : ℕ) → unpack-lts.Need-returns (
 ) (unpack-at t) unpack.Post
 unpack-returns t c =
     let a = c .before .args in
-    (append-nil (written (a .w)) ∙ ap (λ v. written (a .w) ++ v) (sym (unpack-none (a .n) (a .c) (omega arith))), omega arith)
+    let e = unpack-none (a .n) (a .c) (omega arith) in
+    record { letters = append-nil (written (a .w)) ∙ ap (λ v. written (a .w) ++ v) (sym e); len = omega (arith, none-length (unpack′ (a .n) (a .c) []) e) }
 
 unpack-returns-2 : (t : ℕ) → unpack-lts.Need-returns-2 (
   unpack-below t,
@@ -47,7 +49,8 @@ unpack-returns-2 : (t : ℕ) → unpack-lts.Need-returns-2 (
 ) (unpack-at t) unpack.Post
 unpack-returns-2 t c =
     let a = c .before .before .args in
-    (append-nil (written (a .w)) ∙ ap (λ v. written (a .w) ++ v) (sym (unpack-zero (a .n) (a .c) (omega arith))), omega arith)
+    let e = unpack-zero (a .n) (a .c) (omega arith) in
+    record { letters = append-nil (written (a .w)) ∙ ap (λ v. written (a .w) ++ v) (sym e); len = omega (arith, none-length (unpack′ (a .n) (a .c) []) e) }
 
 unpack-sub-unpack : (t : ℕ) → unpack-lts.Need-sub-unpack (
   unpack-below t,
@@ -87,7 +90,9 @@ unpack-push-requires : (t : ℕ) → unpack-lts.Need-push-requires (
   push-reads.Asked,
   push-reads.Learnt,
 ) (unpack-at t) unpack.Post
-unpack-push-requires t c κs = omega (arith, c .before .unpack .ensures .1)
+unpack-push-requires t c κs = 
+    let a = c .before .before .before .before .args in
+    omega (arith, c .before .unpack .ensures .len, unpack-length (a .n - 1) (a .c / 4) [])
 
 unpack-returns-3 : (t : ℕ) → unpack-lts.Need-returns-3 (
   unpack-below t,
@@ -103,7 +108,10 @@ unpack-returns-3 t c =
     let r = c .push .ensures in
     let x = bytes (unpack′ (a .n - 1) (a .c / 4) []) in
     let e : written (a .w) ++ (x ++ (byte (letter (a .c % 4)) ∷ [])) ≡ written (a .w) ++ bytes (unpack′ (a .n) (a .c) []) = ap (λ l. written (a .w) ++ l) (sym (unpack-more (a .n) (a .c) (omega arith) (omega arith))) in
-    (r .0 ∙ ap₂ (λ l b. l ++ (b ∷ [])) (v .0) (c .before .letter-byte .ensures) ∙ append-assoc (written (a .w)) x (byte (letter (a .c % 4)) ∷ []) ∙ e, omega (arith, v .1, r .1))
+    record {
+      letters = r .0 ∙ ap₂ (λ l b. l ++ (b ∷ [])) (v .letters) (c .before .letter-byte .ensures) ∙ append-assoc (written (a .w)) x (byte (letter (a .c % 4)) ∷ []) ∙ e;
+      len = omega (arith, v .len, r .1, more-length (a .n) (a .c) (omega arith) (omega arith));
+    }
 
 pub +unpack-spec : {M : Type 1} → statement M
 +unpack-spec = close μ-unpack λ t. unpack-lts.spec (

@@ -18,7 +18,7 @@ returns c =
     let p = c .before .push .ensures in
     let q = c .push2 .ensures in
     let e = c .before .before .if1 .taken in
-    (rw e (two-more (written (c .before .before .before .args .w)) 72 84 (p .0) (q .0)), omega arith)
+    record { letters = rw e (two-more (written (c .before .before .before .args .w)) 72 84 (p .0) (q .0)); len = rw e (omega arith) }
 
 push-requires-3 : tie.Need-push-requires-3
 push-requires-3 c κs = search needs
@@ -35,7 +35,7 @@ returns-2 c =
     let q = c .before .push4 .ensures in
     let r = c .push5 .ensures in
     let e = c .before .before .before .if1 .left in
-    (rw e (three-more (written (c .before .before .before .before .args .w)) 83 72 84 (p .0) (q .0) (r .0)), omega arith)
+    record { letters = rw e (three-more (written (c .before .before .before .before .args .w)) 83 72 84 (p .0) (q .0) (r .0)); len = rw e (omega arith) }
 
 pub syllable-spec : {M : Type 1} → statement M
 syllable-spec =

@@ -1,53 +1,49 @@
+use mathlib.Core.Path.{_≡_, sym, _∙_, ap, subst}
+use Prim.Native.Nat.{_-_}
+use native.Mathlib.Omega.{arith}
+use borrow.Author.Needs.{needs}
+use Rattle.spelling.specs.Word.{syllable}
+use Rattle.gates.specs.Written.{Adds}
+use Rattle.gates.specs.Going.{steps}
+use Rattle.gates.specs.Start.{Left, left-all, left-more, left-none}
 use Rattle.gates.proofs.spell.body.Statement.{statement}
 use Rattle.gates.proofs.spell.body.Tie as tie
-use Rattle.gates.proofs.spell.body.Reads as reads
-use Rattle.gates.proofs.spell.body.Lts as lts
-use Rattle.gates.proofs.letters.syllable.Reads as syllable-reads
-use Rattle.gates.proofs.spell.is_bare.Reads as is-bare-reads
-use Rattle.gates.proofs.states.next.Reads as next-reads
-use Rattle.gates.proofs.tails.tail.Reads as tail-reads
 
 abbrev Inv-loop : tie.InvT-loop
-Inv-loop r out₀ x₀ n₀ out x n = ?
+Inv-loop r out₀ x₀ n₀ out x n = Left r x₀ out₀ n x out
 
 abbrev μ-loop : tie.MeasureT-loop
-μ-loop r out₀ x₀ n₀ out x n = ?
+μ-loop r out₀ x₀ n₀ out x n = n
 
--- src/spell.rt:77:5
 loop-holds : tie.Need-loop-holds Inv-loop μ-loop
-loop-holds c = ?
+loop-holds c = left-all (c .pre)
 
--- src/spell.rt:78:29
 is-bare-requires : tie.Need-is-bare-requires Inv-loop μ-loop
-is-bare-requires c κs = ?
+is-bare-requires c κs = search needs
 
--- src/spell.rt:78:9
 syllable-requires : tie.Need-syllable-requires Inv-loop μ-loop
-syllable-requires c κs = ?
+syllable-requires c κs = omega (arith, c .before .before .loop .inv .going .room)
 
--- src/spell.rt:79:9
 next-requires : tie.Need-next-requires Inv-loop μ-loop
-next-requires c κs = ?
+next-requires c κs = steps (omega arith) (c .before .before .before .loop .inv .going)
 
--- src/spell.rt:80:9
 sub-n : tie.Need-sub-n Inv-loop μ-loop
-sub-n c = ?
+sub-n c = search needs
 
--- src/spell.rt:77:5
 loop-less : tie.Need-loop-less Inv-loop μ-loop
-loop-less c = ?
+loop-less c = search needs
 
--- src/spell.rt:77:5
 loop-again : tie.Need-loop-again Inv-loop μ-loop
-loop-again c = ?
+loop-again c =
+    let l = c .before .before .before .before .loop in
+    let a = subst (λ b. Adds (l .out) (syllable b) (c .before .syllable .result)) (c .before .before .is-bare .ensures) (c .before .syllable .ensures) in
+    rw (c .next .ensures) (left-more (l .inv) (c .before .syllable .result) (omega arith) a)
 
--- src/spell.rt:82:5
 tail-requires : tie.Need-tail-requires Inv-loop μ-loop
-tail-requires c κs = ?
+tail-requires c κs = omega (arith, c .before .loop .inv .going .room)
 
--- src/spell.rt:70:1
 returns : tie.Need-returns Inv-loop μ-loop
-returns c = ?
+returns c = left-none (c .before .before .loop .inv) (c .tail .result) (omega arith) (c .tail .ensures)
 
 pub body-spec : {M : Type 1} → statement M
 body-spec =

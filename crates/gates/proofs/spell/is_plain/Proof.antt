@@ -1,30 +1,25 @@
+use mathlib.Core.Path.{_∙_, ap₂}
+use native.Mathlib.Omega.{arith}
+use Rattle.spelling.specs.Bits.{plain}
+use Rattle.gates.specs.Going.{plain-none, plain-some}
 use borrow.Author.Needs.{needs}
 use Rattle.gates.proofs.spell.is_plain.Statement.{statement}
 use Rattle.gates.proofs.spell.is_plain.Tie as tie
-use Rattle.gates.proofs.spell.is_plain.Reads as reads
-use Rattle.gates.proofs.spell.is_plain.Lts as lts
-use Rattle.gates.proofs.parity.parities.Reads as parities-reads
-use Rattle.gates.proofs.parity.plain.Reads as plain-reads
 
--- src/spell.rt:29:9
 returns : tie.Need-returns
-returns c = ?
+returns c = plain-none (c .before .before .args .s) (omega arith)
 
--- src/spell.rt:31:11
 parities-requires : tie.Need-parities-requires
 parities-requires c κs = search needs
 
--- src/spell.rt:31:26
 parities-requires-2 : tie.Need-parities-requires-2
 parities-requires-2 c κs = search needs
 
--- src/spell.rt:31:5
 plain-requires : tie.Need-plain-requires
 plain-requires c κs = search needs
 
--- src/spell.rt:25:1
 returns-2 : tie.Need-returns-2
-returns-2 c = ?
+returns-2 c = c .plain .ensures ∙ ap₂ plain (c .before .before .parities .ensures) (c .before .parities2 .ensures) ∙ plain-some (c .before .before .before .before .before .args .s) (omega arith)
 
 pub is-plain-spec : {M : Type 1} → statement M
 is-plain-spec =

@@ -1,9 +1,9 @@
-use mathlib.Core.Path.{_∙_, ap}
-use mathlib.Core.List.{[], _++_}
+use mathlib.Core.Path.{_∙_, ap, subst}
+use mathlib.Core.List.{[]}
 use native.Mathlib.Omega.{arith}
 use lib.ListN.{getD}
 use Rattle.spelling.specs.Table.{tails, unpack, tail}
-use Rattle.gates.specs.Written.{written, bytes}
+use Rattle.gates.specs.Written.{Adds}
 use borrow.Author.Needs.{needs}
 use Rattle.gates.proofs.tails.tail.Statement.{statement}
 use Rattle.gates.proofs.tails.tail.Tie as tie
@@ -23,8 +23,7 @@ unpack-requires c κs = search needs
 returns : tie.Need-returns
 unfolding tail
 returns c =
-    let w = c .before .before .before .before .args .w in
-    (c .unpack .ensures .0 ∙ ap (λ n. written w ++ bytes (unpack 10 n [])) (c .before .entry .ensures ∙ ap (λ i. getD tails i 0) (c .before .before .index .ensures .0)), c .unpack .ensures .1)
+    subst (λ n. Adds (c .before .before .before .before .args .w) (unpack 10 n []) (c .unpack .result)) (c .before .entry .ensures ∙ ap (λ i. getD tails i 0) (c .before .before .index .ensures .0)) (c .unpack .ensures)
 
 pub tail-spec : {M : Type 1} → statement M
 tail-spec = tie.close (tie.spec cast-m index-requires entry-requires unpack-requires returns)
