@@ -9,7 +9,8 @@ use Rattle.ranges.specs.Ranges.{topScale}
 use Rattle.ring.specs.declared.Point.{Point}
 use Rattle.ring.specs.Point.Exponent.{exponentOf}
 use Rattle.spelling.specs.declared.State.{State}
-use Rattle.spelling.specs.State.{Equation, isBare, next, Stage, Ready}
+use Rattle.spelling.specs.Bits.{pick}
+use Rattle.spelling.specs.State.{Equation, isBare, next, Ready}
 use Rattle.spelling.specs.Table.{Letter, T, tail}
 use Rattle.spelling.specs.Word.{syllable, syllables, without-T, front, bareAtZero, spelled, reduced, body, word}
 use Rattle.spelling.specs.Least.{Least, reduced-least}
@@ -49,6 +50,13 @@ module _ {r : ℕ} {s : State} {w : Word} {n : ℕ} {x : State} {v : Word} (l : 
       record { letters = a .letters ∙ ap (λ z. written v ++ bytes z) (sym e) ∙ l .letters; len = a .len ∙ ap (λ z. v .len + length z) (sym e) ∙ l .len }
 
 -- ---- the start, with or without a T
+abbrev pub lead : Bool → List Letter
+lead true = []
+lead false = T ∷ []
+
+abbrev pub start : Bool → State → State
+start b s = pick b s (without-T s)
+
 module _ (k : ℕ) (u t : Point) (e : Equation k u t) (h : k ≤ topScale) {s : State} (d : s ≡ reduced k u t) where
   least : Least (exponentOf k u) s
   least = subst (Least (exponentOf k u)) (sym d) (reduced-least k u t e)
@@ -62,36 +70,32 @@ module _ (k : ℕ) (u t : Point) (e : Equation k u t) (h : k ≤ topScale) {s : 
   pub solved : Equation (s .k) (s .u) (s .t)
   solved = least .equation
 
-  pub plain-stage : bareAtZero s ≡ true → Stage (syllables s) s
-  plain-stage b = starts _ s least b .stage
+  pub staged : (b : Bool) → bareAtZero s ≡ b → Ready (syllables (start b s)) (start b s)
+  staged true b = starts _ s least b
+  staged false b = starts-T _ s least b
 
-  pub T-stage : bareAtZero s ≡ false → Stage (syllables (without-T s)) (without-T s)
-  T-stage b = starts-T _ s least b .stage
+  pub start-low : (b : Bool) → start b s .k ≤ topScale
+  start-low true = low
+  start-low false = low
 
-  pub plain-going : {w : Word} → bareAtZero s ≡ true → w .len ≡ 0 → Going (syllables s) s w
-  plain-going b n =
-      let m = stage-small (syllables s) s low (plain-stage b) in
-      record { ready = starts _ s least b; scale = low; phase = omega (arith, no-phase); room = omega arith }
+  pub start-phase : (b : Bool) → start b s .l ≤ 7
+  start-phase true = omega (arith, no-phase)
+  start-phase false = omega (arith, no-phase)
 
-  pub T-going : {w : Word} → bareAtZero s ≡ false → w .len ≡ 1 → Going (syllables (without-T s)) (without-T s) w
-  T-going b n =
-      let m = stage-small (syllables (without-T s)) (without-T s) low (T-stage b) in
-      record { ready = starts-T _ s least b; scale = low; phase = omega (arith, no-phase); room = omega arith }
+  pub starts-going : (b : Bool) {w : Word} → bareAtZero s ≡ b → w .len ≤ 1 → Going (syllables (start b s)) (start b s) w
+  starts-going b {w} f n =
+      let r = staged b f in
+      let m = stage-small (syllables (start b s)) (start b s) (start-low b) (r .stage) in
+      record { ready = r; scale = start-low b; phase = omega (arith, start-phase b); room = omega arith }
 
-  -- the end
-  writes : {o : Word} (v : List Letter) → v ≡ word k u t → written o ≡ bytes v → o .len ≡ length v → Writes o (word k u t)
-  writes v f p q = record { letters = p ∙ ap bytes f; len = q ∙ ap length f; room = omega (arith, q ∙ ap length f, word-length k u t h e) }
-
-  spelled-is : {b : Bool} → bareAtZero s ≡ b → front b s ≡ word k u t
+  spelled-is : (b : Bool) → bareAtZero s ≡ b → lead b ++ body (syllables (start b s)) (start b s) ≡ word k u t
   unfolding word
-  spelled-is b = ap (λ b. front b s) (sym b) ∙ ap spelled d
+  spelled-is true b = ap (λ b. front b s) (sym b) ∙ ap spelled d
+  spelled-is false b = ap (λ b. front b s) (sym b) ∙ ap spelled d
 
-  pub plain-writes : {w o : Word} → bareAtZero s ≡ true → written w ≡ [] → w .len ≡ 0 → Adds w (body (syllables s) s) o → Writes o (word k u t)
-  plain-writes b p q a =
-      let v = body (syllables s) s in
-      writes v (spelled-is b) (a .letters ∙ ap (λ l. l ++ bytes v) p) (omega (arith, a .len))
-
-  pub T-writes : {w o : Word} → bareAtZero s ≡ false → written w ≡ 84 ∷ [] → w .len ≡ 1 → Adds w (body (syllables (without-T s)) (without-T s)) o → Writes o (word k u t)
-  T-writes b p q a =
-      let v = body (syllables (without-T s)) (without-T s) in
-      writes (T ∷ v) (spelled-is b) (a .letters ∙ ap (λ l. l ++ bytes v) p) (omega (arith, a .len))
+  pub writes : (b : Bool) {w o : Word} → bareAtZero s ≡ b → Writes w (lead b) → Adds w (body (syllables (start b s)) (start b s)) o → Writes o (word k u t)
+  writes b {w} {o} f n a =
+      let v = body (syllables (start b s)) (start b s) in
+      let g = spelled-is b f in
+      let len : o .len ≡ length (word k u t) = omega (arith, a .len, n .len, length-append (lead b) v, ap length g) in
+      record { letters = a .letters ∙ ap (λ l. l ++ bytes v) (n .letters) ∙ sym (bytes-++ (lead b) v) ∙ ap bytes g; len = len; room = omega (arith, word-length k u t h e) }

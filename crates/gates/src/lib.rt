@@ -7,4 +7,5 @@ mod states;
 mod tails;
 
 pub use letters::Word;
+pub use spell::conjugate_word;
 pub use spell::word;

@@ -2,10 +2,12 @@
 ghost use mathlib.Core.Path.{_≡_};
 ghost use Prim.Native.Nat.{_^_, _<_, _≤_};
 ghost use Rattle.ranges.specs.Ranges.{topScale};
+ghost use Rattle.spelling.specs.Points.{turn};
 ghost use Rattle.spelling.specs.State.{Equation, isBare, Stage};
 ghost use Rattle.spelling.specs.Word.{syllables, without-T, bareAtZero, body, word};
 ghost use Rattle.gates.specs.Written.{Adds, Writes};
 ghost use Rattle.gates.specs.Going.{Going};
+ghost use Rattle.gates.specs.Start.{lead, start};
 use crate::letters::Word;
 use crate::letters::empty;
 use crate::letters::push;
@@ -15,6 +17,7 @@ use crate::parity::odd;
 use crate::parity::parities;
 use crate::parity::plain;
 use crate::points::over_omega;
+use crate::points::times_omega;
 use crate::states::next;
 use crate::states::reduce;
 use crate::tails::tail;
@@ -83,15 +86,42 @@ fn body(w: Word, s: State, r: u32) -> Word
     tail(out, x)
 }
 
+// T, unless the word has none in front.
+fn lead(plain: bool) -> Word
+    ensures { λ r. ⌜ Writes r (lead plain) × (r .len ≤ 1) ⌝ }
+{
+    if plain {
+        return empty();
+    }
+    push(empty(), b'T')
+}
+
+// What is left behind it.
+fn start(plain: bool, s: State) -> State
+    requires { ⌜ Equation (s .k) (s .u) (s .t) × (s .k ≤ topScale) × (s .l < 2 ^ 31) ⌝ }
+    ensures { λ r. ⌜ r ≡ start plain s ⌝ }
+{
+    if plain {
+        return s;
+    }
+    without_t(s)
+}
+
 // The word of the matrix with rows (u, −t†) and (t, u†) over √2^k.
 pub fn word(k: u32, u: Point, t: Point) -> Word
     requires { ⌜ Equation k u t × (k ≤ topScale) ⌝ }
     ensures { λ r. ⌜ Writes r (word k u t) ⌝ }
 {
     let s = reduce(k, u, t);
-    if is_plain(s) {
-        return body(empty(), s, syllables(s));
-    }
-    let x = without_t(s);
-    body(push(empty(), b'T'), x, syllables(x))
+    let plain = is_plain(s);
+    let x = start(plain, s);
+    body(lead(plain), x, syllables(x))
+}
+
+// The word of TUT†, of first column (u, ω t).
+pub fn conjugate_word(k: u32, u: Point, t: Point) -> Word
+    requires { ⌜ Equation k u t × (k ≤ topScale) ⌝ }
+    ensures { λ r. ⌜ Writes r (word k u (turn t)) ⌝ }
+{
+    word(k, u, times_omega(t))
 }

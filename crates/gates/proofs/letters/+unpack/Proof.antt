@@ -90,7 +90,7 @@ unpack-push-requires : (t : ℕ) → unpack-lts.Need-push-requires (
   push-reads.Asked,
   push-reads.Learnt,
 ) (unpack-at t) unpack.Post
-unpack-push-requires t c κs = 
+unpack-push-requires t c κs =
     let a = c .before .before .before .before .args in
     omega (arith, c .before .unpack .ensures .len, unpack-length (a .n - 1) (a .c / 4) [])
 
