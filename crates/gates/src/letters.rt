@@ -4,7 +4,7 @@ ghost use mathlib.Core.List.{[], _∷_, _++_};
 ghost use Prim.Native.Nat.{_+_, _<_, _≤_};
 ghost use Rattle.spelling.specs.Table.{letter, unpack};
 ghost use Rattle.spelling.specs.Word.{syllable};
-ghost use Rattle.gates.specs.Written.{written, byte, Adds};
+ghost use Rattle.gates.specs.Written.{written, byte, one, tally, Adds};
 
 // The letters of a word, the first `len` of the array.
 pub struct Word {
@@ -71,4 +71,29 @@ pub(crate) fn unpack(w: Word, n: usize, c: u32) -> Word
     }
     let v = unpack(w, n - 1, c / 4);
     push(v, letter_byte(c % 4))
+}
+
+fn one_t(b: u8) -> usize
+    ensures { λ r. ⌜ r ≡ one b ⌝ }
+{
+    if b == b'T' {
+        return 1;
+    }
+    0
+}
+
+// How many T a word has.
+pub fn ts(w: Word) -> usize
+    requires { ⌜ w .len ≤ 128 ⌝ }
+    ensures { λ r. ⌜ r ≡ tally (written w) ⌝ }
+{
+    let a = w.letters;
+    let n = w.len;
+    let mut m = 0;
+    let mut i = 0;
+    while i < n {
+        m += one_t(a[i]);
+        i += 1;
+    }
+    m
 }

@@ -7,5 +7,6 @@ mod states;
 mod tails;
 
 pub use letters::Word;
+pub use letters::ts;
 pub use spell::conjugate_word;
 pub use spell::word;
