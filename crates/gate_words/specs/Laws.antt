@@ -7,7 +7,7 @@ use native.Mathlib.Omega.{arith}
 use lib.Dec.{leb, ltb}
 use lib.IntN.{_+ℤ_, _-ℤ_, _*ℤ_, +ℤ-assoc}
 use lib.ListN.{length, take, drop, length-append, length-drop}
-use lib.Seq.{take-append-seam}
+use lib.Seq.{take-at}
 use borrow.Author.Tests.{leb-true, le-leb, lt-ltb, le-ltb}
 use Rattle.ring.specs.declared.Point.{Point}
 use Rattle.equation.specs.Equation.{squares, cross, completes}
@@ -24,7 +24,7 @@ use Rattle.gate_words.specs.declared.Refusal.the-variants.{OutOfRange, N
 use Rattle.gate_words.specs.declared.Answer.{Answer}
 use Rattle.gate_words.specs.declared.Answer.the-variants.{First, Second, Refused}
 use Rattle.gate_words.specs.declared.Part.{Part}
-use Rattle.gate_words.specs.Words.{number, isSecond, lengthOf, isSpelled, wordU, wordTUT, isFewer, handed, fit, answerOf, laid, answer, firstAfter, secondAfter, handedBack, Spells, Hands, answerTo}
+use Rattle.gate_words.specs.Words.{number, isSecond, lengthOf, isSpelled, wordU, wordTUT, isFewer, handed, fit, answerOf, laid, answer, firstAfter, secondAfter, named, handedBack, Spells, Hands, answerTo}
 
 -- ---- `decide`
 decided : (b c : Bool) → not b ≡ c → b ≡ not c
@@ -124,3 +124,16 @@ module _ (k : ℕ) (u t : Point) where
 module _ (k : ℕ) (u t : Point) (s v : List ℕ) where
   pub hands : {s′ v′ : List ℕ} {r : Answer} {p : Part} → Spells k u t s v s′ v′ r → (p .number ≡ number r) × (p .second ≡ isSecond r) × (p .len ≡ lengthOf r) → Hands k u t s v s′ v′ p
   hands e h = record { number = h .0 ∙ ap number (e .answers); which = h .1 ∙ ap isSecond (e .answers); len = h .2 ∙ ap lengthOf (e .answers); first = e .first; second = e .second }
+
+  -- the part that an answer names is the word that it hands back
+  part : (x y : List Letter) (b c d e : Bool) → let r : Answer = pick b (pick c (pick d (pick e (Second (length y)) (First (length x))) (Refused NoRoom)) (Refused NotUnitary)) (Refused OutOfRange) in
+      take (lengthOf r) (pick (isSecond r) (pick (isSpelled r) (laid (bytes y) v) v) (pick (isSpelled r) (laid (bytes x) s) s)) ≡ bytes (named x y r)
+  part x y true true true true = take-at (bytes y) (drop (length (bytes y)) v) (length y) (length-bytes y)
+  part x y true true true false = take-at (bytes x) (drop (length (bytes x)) s) (length x) (length-bytes x)
+  part x y true true false e = refl
+  part x y true false d e = refl
+  part x y false c d e = refl
+
+  pub part-is : {s′ v′ : List ℕ} {r : Part} → Hands k u t s v s′ v′ r → take (r .len) (pick (r .second) v′ s′) ≡ bytes (handedBack k u t s v)
+  unfolding answerOf
+  part-is h = rw (h .which, h .len, h .first, h .second) (part (wordU k u t) (wordTUT k u t) (leb k topScale) (completes k u t) (fit k u t (length s) (length v)) (isFewer k u t))

@@ -48,6 +48,12 @@ isSpelled (First n) = true
 isSpelled (Second n) = true
 isSpelled (Refused why) = false
 
+-- of two words, the one that an answer names; none with a refusal
+abbrev pub named : List Letter → List Letter → Answer → List Letter
+named v w (First n) = v
+named v w (Second n) = w
+named v w (Refused why) = []
+
 -- ---- the two words: U has the rows (u, −t†) and (t, u†) over √2^k, and TUT† has ω t for t (`conjugated` of `spelling`)
 module _ (k : ℕ) (u t : Point) where
   abbrev pub wordU : List Letter
@@ -87,10 +93,8 @@ module _ (k : ℕ) (u t : Point) (s v : List ℕ) where
   secondAfter = pick (isSpelled answer) (laid (bytes (wordTUT k u t)) v) v
 
   -- what is handed back
-  abbrev pub handedBack : Answer → List Letter
-  handedBack (First n) = wordU k u t
-  handedBack (Second n) = wordTUT k u t
-  handedBack (Refused why) = []
+  abbrev pub handedBack : List Letter
+  handedBack = named (wordU k u t) (wordTUT k u t) answer
 
   pub record Spells (s′ v′ : List ℕ) (r : Answer) : Type 0 where
     pub answers : r ≡ answer
