@@ -9,4 +9,5 @@ mod tails;
 pub use letters::Word;
 pub use letters::ts;
 pub use spell::conjugate_word;
+pub use spell::tail_word;
 pub use spell::word;

@@ -4,6 +4,7 @@ ghost use Prim.Native.Nat.{_^_, _<_, _≤_};
 ghost use Rattle.ranges.specs.Ranges.{topScale};
 ghost use Rattle.spelling.specs.Points.{turn};
 ghost use Rattle.spelling.specs.State.{Equation, isBare, Stage};
+ghost use Rattle.spelling.specs.Table.{tail};
 ghost use Rattle.spelling.specs.Word.{syllables, without-T, bareAtZero, body, word};
 ghost use Rattle.gates.specs.Written.{Adds, Writes};
 ghost use Rattle.gates.specs.Going.{Going};
@@ -84,6 +85,13 @@ fn body(w: Word, s: State, r: u32) -> Word
         n -= 1;
     }
     tail(out, x)
+}
+
+// The tail of a state by itself.
+pub fn tail_word(s: State) -> Word
+    ensures { λ r. ⌜ Writes r (tail s) ⌝ }
+{
+    tail(empty(), s)
 }
 
 // T, unless the word has none in front.
