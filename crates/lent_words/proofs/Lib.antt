@@ -1,0 +1,4 @@
+mod Again
+mod Data
+mod Shared
+mod Two
