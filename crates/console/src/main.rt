@@ -1,8 +1,8 @@
 // Every public entry, tried by hand or by a script: one line for each line of standard input. Empty lines and those that begin with # are skipped.
 mod apart;
+mod args;
 mod put;
 mod steps;
-mod wording;
 
 ghost use mathlib.Core.Path.{_≡_};
 ghost use Prim.Native.Nat.{_≤_};
@@ -12,13 +12,12 @@ use libc::STDOUT_FILENO;
 use put::Line;
 use session::Session;
 use steps::Reply;
-use wording::Command;
 use wording::Numbers;
 
 fn main() {
     let mut space = input_buffer();
     let n = io::read_full(STDIN_FILENO, &mut space);
-    if 65536 < n {
+    if 131072 < n {
         io::write_all(STDOUT_FILENO, b"too long\n");
         return;
     }
@@ -26,10 +25,10 @@ fn main() {
 }
 
 // One byte more than the program takes.
-fn input_buffer() -> [u8; 65537]
-    ensures { λ r. ⌜ 65537 ≡ length r ⌝ }
+fn input_buffer() -> [u8; 131073]
+    ensures { λ r. ⌜ 131073 ≡ length r ⌝ }
 {
-    [0; 65537]
+    [0; 131073]
 }
 
 // Line by line, with one session that each call moves on.
@@ -74,46 +73,29 @@ fn reply(s: Session, line: &[u8], numbers: &mut [i32]) -> Reply {
     let first = scan::spaces_from(line, 0);
     let end = scan::word_end(line, first);
     let c = wording::command_of(&line[first..end]);
-    if let Command::Read = c {
+    if c == wording::READ {
         return steps::read(s, line, end);
+    }
+    if c == wording::SIGN {
+        return steps::same(s, apart::sign(line, end));
     }
     let n = wording::numbers_from(line, end);
     if !n.good {
         return steps::same(s, Line::Bad);
     }
-    moved(s, c, n, numbers)
+    answered(s, c, n, numbers)
 }
 
-// The commands that move the session on; the others leave it.
-fn moved(s: Session, c: Command, n: Numbers, numbers: &mut [i32]) -> Reply {
-    if let Command::Hand = c {
-        return steps::hand(s, n, numbers);
-    }
-    if let Command::Rewind = c {
-        return steps::rewind(s, n);
-    }
-    if let Command::Clear = c {
-        return steps::clear(s, n);
-    }
-    steps::same(s, asked(s, c, n, numbers))
-}
-
-fn asked(s: Session, c: Command, n: Numbers, numbers: &mut [i32]) -> Line {
+// The commands with numbers of one word.
+fn answered(s: Session, c: usize, n: Numbers, numbers: &mut [i32]) -> Reply {
     match c {
-        Command::Plain => steps::plain(s, n),
-        Command::Image => steps::image(s, n),
-        Command::Line => apart::line(n, numbers),
-        _ => apart_from_session(c, n),
-    }
-}
-
-fn apart_from_session(c: Command, n: Numbers) -> Line {
-    match c {
-        Command::Sign => apart::sign(n),
-        Command::Operator => apart::operator(n),
-        Command::Apply => apart::apply(n),
-        Command::Inverse => apart::inverse(n),
-        Command::Exponent => apart::exponent(n),
-        _ => Line::Bad,
+        wording::HAND => steps::hand(s, n, numbers),
+        wording::REWIND => steps::alone(s, c, n),
+        wording::CLEAR => steps::alone(s, c, n),
+        wording::PLAIN => steps::alone(s, c, n),
+        wording::PROPOSE => steps::alone(s, c, n),
+        wording::IMAGE => steps::same(s, steps::image(s, n)),
+        wording::LINE => steps::same(s, apart::line(n, numbers)),
+        _ => steps::same(s, apart::numbered(c, n)),
     }
 }

@@ -1,5 +1,4 @@
 // Answers as lines of text.
-use operator::Operator;
 use operator::WidePoint;
 use record::Refusal;
 
@@ -13,12 +12,13 @@ pub enum Line {
 // What follows `ok`.
 pub enum Value {
     Nothing,
-    Signed(i64),
+    Says(bool),
     Unsigned(u64),
     Pair(u64, u64),
-    Says(bool),
-    Point(WidePoint),
-    Operator(Operator),
+    One(i64),
+    Two(i64, i64),
+    Four(WidePoint),
+    Eight(WidePoint, WidePoint),
     // A hand-out: its count, its end, and how many numbers it has.
     Handed(usize, bool, usize),
 }
@@ -33,8 +33,8 @@ pub fn put(out: &mut [u8], l: Line, numbers: &[i32]) -> usize {
 }
 
 fn refused(out: &mut [u8], f: Refusal) -> usize {
-    let at = text::put_bytes(out, 0, b"refused ");
-    let at = text::put_unsigned(out, at, f.number() as u64);
+    let at = text::put_bytes(out, 0, b"refused");
+    let at = unsigned(out, at, f.number() as u64);
     end(out, at)
 }
 
@@ -47,12 +47,13 @@ fn good(out: &mut [u8], v: Value, numbers: &[i32]) -> usize {
 fn put_value(out: &mut [u8], at: usize, v: Value, numbers: &[i32]) -> usize {
     match v {
         Value::Nothing => at,
-        Value::Signed(z) => signed(out, at, z),
+        Value::Says(yes) => yes_or_no(out, at, yes),
         Value::Unsigned(n) => unsigned(out, at, n),
         Value::Pair(m, n) => pair(out, at, m, n),
-        Value::Says(yes) => yes_or_no(out, at, yes),
-        Value::Point(w) => four(out, at, w.a, w.b, w.c, w.d),
-        Value::Operator(g) => eight(out, at, g),
+        Value::One(z) => signed(out, at, z),
+        Value::Two(p, q) => two(out, at, p, q),
+        Value::Four(w) => four(out, at, w),
+        Value::Eight(v, w) => eight(out, at, v, w),
         Value::Handed(count, ended, n) => handed(out, at, count, ended, numbers, n),
     }
 }
@@ -80,17 +81,19 @@ fn yes_or_no(out: &mut [u8], at: usize, yes: bool) -> usize {
     }
 }
 
-fn four(out: &mut [u8], at: usize, a: i64, b: i64, c: i64, d: i64) -> usize {
-    let at = signed(out, at, a);
-    let at = signed(out, at, b);
-    let at = signed(out, at, c);
-    signed(out, at, d)
+fn two(out: &mut [u8], at: usize, p: i64, q: i64) -> usize {
+    let at = signed(out, at, p);
+    signed(out, at, q)
 }
 
-// G(1), then G(i).
-fn eight(out: &mut [u8], at: usize, g: Operator) -> usize {
-    let at = four(out, at, short(g.a), short(g.b), short(g.c), short(g.d));
-    four(out, at, short(g.ai), short(g.bi), short(g.ci), short(g.di))
+fn four(out: &mut [u8], at: usize, w: WidePoint) -> usize {
+    let at = two(out, at, w.a, w.b);
+    two(out, at, w.c, w.d)
+}
+
+fn eight(out: &mut [u8], at: usize, v: WidePoint, w: WidePoint) -> usize {
+    let at = four(out, at, v);
+    four(out, at, w)
 }
 
 fn handed(
@@ -123,10 +126,6 @@ fn end(out: &mut [u8], at: usize) -> usize {
     text::put_byte(out, at, b'\n')
 }
 
-fn wide(z: i32) -> i64 {
-    z as i64
-}
-
-fn short(z: i16) -> i64 {
+pub fn wide(z: i32) -> i64 {
     z as i64
 }

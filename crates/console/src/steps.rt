@@ -1,16 +1,19 @@
 // Calls on the session.
 ghost use mathlib.Core.Path.{_≡_};
 ghost use lib.ListN.{length};
+use crate::apart;
+use crate::args;
+use crate::args::Four;
 use crate::put::Line;
 use crate::put::Value;
-use crate::wording;
-use crate::wording::Four;
-use crate::wording::Numbers;
-use crate::wording::Slice;
+use record::Refusal;
 use session::Answer;
 use session::Outcome;
 use session::Session;
+use session::Stage;
 use text::Hex;
+use wording::Numbers;
+use wording::Slice;
 
 // The session that a line leaves, and its answer.
 pub struct Reply {
@@ -41,14 +44,12 @@ fn answered(a: Answer) -> Line {
         Answer::Says(yes) => Line::Good(Value::Says(yes)),
         Answer::Refused(f) => Line::Refused(f),
         Answer::Done => Line::Good(Value::Nothing),
-        Answer::Handed(count, ended) => {
-            Line::Good(Value::Handed(count, ended, twice(twice(count))))
-        }
+        Answer::Handed(count, ended) => Line::Good(Value::Handed(
+            count,
+            ended,
+            apart::twice(apart::twice(count)),
+        )),
     }
-}
-
-pub fn twice(n: usize) -> usize {
-    std::num::wrapping_add_usize(n, n)
 }
 
 // `read HEX`; with no word after it a reading of no bytes.
@@ -108,25 +109,26 @@ fn hand_out(s: Session, space: &mut [i32], k: usize) -> Reply {
     replied(session::hand_out(s, &mut space[..k]))
 }
 
-pub fn rewind(s: Session, n: Numbers) -> Reply {
+// `rewind`, `clear`, `plain`, `propose`, without a number.
+pub fn alone(s: Session, c: usize, n: Numbers) -> Reply {
     if n.count != 0 {
         return same(s, Line::Bad);
     }
-    replied(session::rewind(s))
+    match c {
+        wording::REWIND => replied(session::rewind(s)),
+        wording::CLEAR => replied(session::clear(s)),
+        wording::PLAIN => same(s, answered(session::has_solution(s))),
+        _ => same(s, propose(s)),
+    }
 }
 
-pub fn clear(s: Session, n: Numbers) -> Reply {
-    if n.count != 0 {
-        return same(s, Line::Bad);
+// The reduction's operator for the session's job.
+fn propose(s: Session) -> Line {
+    let g = s.stage;
+    match g {
+        Stage::Walking(c) => Line::Good(apart::columns(question::propose(c.job))),
+        _ => Line::Refused(Refusal::NoJob),
     }
-    replied(session::clear(s))
-}
-
-pub fn plain(s: Session, n: Numbers) -> Line {
-    if n.count != 0 {
-        return Line::Bad;
-    }
-    answered(session::has_solution(s))
 }
 
 // `image A B C D`.
@@ -134,7 +136,7 @@ pub fn image(s: Session, n: Numbers) -> Line {
     if n.count != 4 {
         return Line::Bad;
     }
-    let v = wording::point(n.values[0], n.values[1], n.values[2], n.values[3]);
+    let v = args::point(n.values[0], n.values[1], n.values[2], n.values[3]);
     match v {
         Four::Point(w) => answered(session::has_image(s, w)),
         Four::TooWide => Line::Bad,

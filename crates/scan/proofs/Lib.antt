@@ -1,3 +1,4 @@
 pub mod Runs
 pub mod Saturation
 pub mod Signs
+pub mod Words

@@ -1,28 +1,28 @@
--- The value of a run of digits, counted under a cap of 2^63 + 1. Assumes nothing.
-use Prim.Native.Nat.{ℕ, _+_, _^_, _≤_, _<_, min}
+-- The value of a run of digits, counted under a cap C, which is one more than any size that is asked for. Assumes nothing.
+use Prim.Native.Nat.{ℕ, _+_, _≤_, _<_, min}
 use mathlib.Core.Path.{_≡_, refl, sym, ap, _∙_}
 use mathlib.Core.Bool.{Bool, true, false}
 use mathlib.Core.List.{List, [], _∷_, foldl}
 use native.Mathlib.Nat.{le-of-lt}
 use native.Mathlib.Decide.{decLe}
 use native.Mathlib.Omega.{arith}
-use borrow.Author.Tests.{le-leb, lt-leb, le-ltb}
+use borrow.Author.Tests.{le-leb, lt-leb, lt-ltb, le-ltb}
 use lib.ListN.{length, getD}
 use Rattle.scan.specs.Run.{runEnd}
-use Rattle.scan.specs.declared.Number.the-variants.{Bad}
-use Rattle.scan.specs.Number.{isDigit, digitsAt, withDigit, valueOf, signed}
+use Rattle.scan.specs.Number.{bad, spelling, isDigit, digitsAt, withDigit, valueOf, fits, fitted}
 use Rattle.scan.proofs.Runs.{run-more, runEnd-more, runEnd-here}
 
--- a value with one more digit, under the cap
-abbrev pub capped : ℕ → ℕ → ℕ
-capped n b = min (withDigit n b) (2 ^ 63 + 1)
+module _ (C : ℕ) where
+  -- a value with one more digit, under the cap
+  abbrev pub capped : ℕ → ℕ → ℕ
+  capped n b = min (withDigit n b) C
 
-withDigit-capped : (n b : ℕ) → min (withDigit n b) (2 ^ 63 + 1) ≡ capped (min n (2 ^ 63 + 1)) b
-withDigit-capped n b = omega arith
+  withDigit-capped : (n b : ℕ) → min (withDigit n b) C ≡ capped (min n C) b
+  withDigit-capped n b = omega arith
 
-foldl-capped : (ds : List ℕ) (n : ℕ) → foldl capped (min n (2 ^ 63 + 1)) ds ≡ min (foldl withDigit n ds) (2 ^ 63 + 1)
-foldl-capped [] n = refl
-foldl-capped (b ∷ ds) n = rw (← withDigit-capped n b) (foldl-capped ds (withDigit n b))
+  foldl-capped : (ds : List ℕ) (n : ℕ) → foldl capped (min n C) ds ≡ min (foldl withDigit n ds) C
+  foldl-capped [] n = refl
+  foldl-capped (b ∷ ds) n = rw (← withDigit-capped n b) (foldl-capped ds (withDigit n b))
 
 pub isDigit-below : (b : ℕ) → b < 48 → isDigit b ≡ false
 isDigit-below b h = simp (lt-leb 48 b h)
@@ -33,29 +33,42 @@ isDigit-above b h k = simp (le-leb 48 b h, lt-leb b 57 k)
 isDigit-within : (b : ℕ) → 48 ≤ b → b ≤ 57 → isDigit b ≡ true
 isDigit-within b h k = simp (le-leb 48 b h, le-leb b 57 k)
 
-module _ (s : List ℕ) (at n i : ℕ) where
+module _ (C : ℕ) (s : List ℕ) (at n i : ℕ) where
   -- counting on from i with n ends as counting from `at` does
   abbrev pub Counted : Type 0
-  Counted = (foldl capped n (digitsAt s i) ≡ foldl capped 0 (digitsAt s at)) × (runEnd isDigit s i ≡ runEnd isDigit s at)
+  Counted = (min (foldl withDigit n (digitsAt s i)) C ≡ min (valueOf (digitsAt s at)) C) × (runEnd isDigit s i ≡ runEnd isDigit s at)
 
-  pub counted-none : Counted → digitsAt s i ≡ [] → (n ≡ min (valueOf (digitsAt s at)) (2 ^ 63 + 1)) × (i ≡ runEnd isDigit s at)
-  counted-none h e =
-      (sym (ap (foldl capped n) e) ∙ h .0 ∙ foldl-capped (digitsAt s at) 0, runEnd-here isDigit s i e ∙ h .1)
+  pub counted-none : Counted → digitsAt s i ≡ [] → (min n C ≡ min (valueOf (digitsAt s at)) C) × (i ≡ runEnd isDigit s at)
+  counted-none h e = (sym (ap (λ (ds : List ℕ). min (foldl withDigit n ds) C) e) ∙ h .0, runEnd-here isDigit s i e ∙ h .1)
 
-pub counted-more : (s : List ℕ) (at n i : ℕ) → Counted s at n i → i < length s → 48 ≤ getD s i 0 → getD s i 0 ≤ 57
-    → Counted s at (capped n (getD s i 0)) (i + 1)
-counted-more s at n i h l low high =
-    let e = isDigit-within (getD s i 0) low high in
-    (sym (ap (foldl capped n) (run-more isDigit s i l e)) ∙ h .0, runEnd-more isDigit s i l e ∙ h .1)
+  pub counted-more : (m : ℕ) → Counted → i < length s → 48 ≤ getD s i 0 → getD s i 0 ≤ 57
+      → min m C ≡ min (withDigit n (getD s i 0)) C → (min (foldl withDigit m (digitsAt s (i + 1))) C ≡ min (valueOf (digitsAt s at)) C) × (runEnd isDigit s (i + 1) ≡ runEnd isDigit s at)
+  counted-more m h l low high grown =
+      let e = isDigit-within (getD s i 0) low high in
+      let rest = digitsAt s (i + 1) in
+      (sym (foldl-capped C rest m) ∙ ap (λ (x : ℕ). foldl (capped C) x rest) grown ∙ foldl-capped C rest (withDigit n (getD s i 0)) ∙ sym (ap (λ (ds : List ℕ). min (foldl withDigit n ds) C) (run-more isDigit s i l e)) ∙ h .0,
+      runEnd-more isDigit s i l e ∙ h .1)
 
-signed-big : (minus : Bool) (n end : ℕ) → 2 ^ 63 < n → signed minus n end ≡ Bad
-unfolding signed
-signed-big true n end h = simp (lt-leb n (2 ^ 63) h)
-signed-big false n end h = simp (le-ltb n (2 ^ 63) (le-of-lt h))
+pub fits-small : (top : ℕ) (minus : Bool) (n : ℕ) → n < top → fits top minus n ≡ true
+unfolding fits
+fits-small top true n h = le-leb n top (le-of-lt h)
+fits-small top false n h = lt-ltb n top h
+
+pub fits-big : (top : ℕ) (minus : Bool) (n : ℕ) → top < n → fits top minus n ≡ false
+unfolding fits
+fits-big top true n h = lt-leb n top h
+fits-big top false n h = le-ltb n top (le-of-lt h)
+
+pub fitted-big : (top : ℕ) (minus : Bool) (n end : ℕ) → top < n → fitted top (spelling minus n end) ≡ bad
+unfolding fitted
+fitted-big top minus n end h = rw (fits-big top minus n h) refl
 
 -- a capped value is as good as the value
-pub signed-capped : (minus : Bool) (n end : ℕ) → signed minus (min n (2 ^ 63 + 1)) end ≡ signed minus n end
-signed-capped minus n end = elim (decLe n (2 ^ 63)) [
-  | yes h ↦ ap (λ (m : ℕ). signed minus m end) (omega arith)
-  | no h ↦ signed-big minus (min n (2 ^ 63 + 1)) end (omega arith) ∙ sym (signed-big minus n end (omega arith))
+pub fitted-capped : (T top : ℕ) → top ≤ T → (minus : Bool) (n m end : ℕ) → min n (T + 1) ≡ min m (T + 1) → fitted top (spelling minus n end) ≡ fitted top (spelling minus m end)
+fitted-capped T top t minus n m end e = elim (decLe m T) [
+  | yes h ↦ ap (λ (x : ℕ). fitted top (spelling minus x end)) (omega arith)
+  | no h ↦ fitted-big top minus n end (omega arith) ∙ sym (fitted-big top minus m end (omega arith))
 ]
+
+pub both-capped : (C n m : ℕ) → C ≤ n → C ≤ m → min n C ≡ min m C
+both-capped C n m h k = omega arith

@@ -1,33 +1,57 @@
 // Reading: the number at a place, and the places where a run of spaces or a line ends.
-ghost use Prim.Native.Nat.{_+_, _^_, _≤_, min};
+ghost use Prim.Native.Nat.{ℕ, _+_, _^_, _≤_, min};
 ghost use mathlib.Core.Path.{_≡_};
 ghost use lib.IntN.{pos, negℤ};
+ghost use Rattle.words.specs.Meaning.{sizeOf};
 ghost use Rattle.scan.specs.Run.{runEnd, isByte, spacesFrom, wordEnd, lineEnd};
-ghost use Rattle.scan.specs.Number.{isDigit, digitsAt, withDigit, valueOf, numberFrom, numberAt};
-ghost use Rattle.scan.specs.Number.{signed as Number·signed};
+ghost use Rattle.scan.specs.Number.{isDigit, digitsAt, withDigit, valueOf, spelling, fitted, readOf, wideReadOf, spelledOf, numberFrom, numberAt};
+use words::Size;
+use words::Wide;
 
-// A number's value with the place after it, or no number that fits.
+// A number's value with the place after it, or no number that fits one word.
 pub enum Number {
     Value(i64, usize),
     Bad,
 }
 
-// The value of a run of digits, no more than 2^63 + 1, and the place after it.
+// A number's value with the place after it, or no number that fits two words.
+pub enum WideNumber {
+    Value(Wide, usize),
+    Bad,
+}
+
+// The value of a run of digits, above 2^127 any that is, and the place after it.
 struct Digits {
-    value: u64,
+    value: Size,
     end: usize,
+}
+
+// A minus or not, the value of the digits and the place after them; or no digit.
+enum Spelled {
+    Digits(bool, Size, usize),
+    Nothing,
 }
 
 // The number at a place: an optional '-' and the longest run of digits, at least one.
 pub fn number_at(s: &[u8], at: usize) -> Number
-    ensures { λ r. ⌜ r ≡ numberAt (now (s .entry)) at ⌝ }
+    ensures { λ r. ⌜ readOf r ≡ numberAt (2 ^ 63) (now (s .entry)) at ⌝ }
 {
-    if at < s.len() {
-        if s[at] == b'-' {
-            return number_from(true, s, at + 1);
-        }
+    let n = spelled_at(s, at);
+    match n {
+        Spelled::Digits(minus, size, end) => short(minus, size, end),
+        Spelled::Nothing => Number::Bad,
     }
-    number_from(false, s, at)
+}
+
+// The same for a number of two words.
+pub fn wide_number_at(s: &[u8], at: usize) -> WideNumber
+    ensures { λ r. ⌜ wideReadOf r ≡ numberAt (2 ^ 127) (now (s .entry)) at ⌝ }
+{
+    let n = spelled_at(s, at);
+    match n {
+        Spelled::Digits(minus, size, end) => wide(minus, size, end),
+        Spelled::Nothing => WideNumber::Bad,
+    }
 }
 
 // The first place at or after `at` that holds no space, or the length; past the end, `at`.
@@ -65,24 +89,37 @@ fn run_end(s: &[u8], at: usize, b: u8, same: bool) -> usize
     i
 }
 
-// The number whose digits begin at `at`, with a minus before them or not.
-fn number_from(minus: bool, s: &[u8], at: usize) -> Number
-    ensures { λ r. ⌜ r ≡ numberFrom minus (now (s .entry)) at ⌝ }
+// Sign and digits at a place, for numbers of every size up to two words.
+fn spelled_at(s: &[u8], at: usize) -> Spelled
+    ensures { λ r. ⌜ ((top : ℕ) → top ≤ 2 ^ 127 → fitted top (spelledOf r) ≡ numberAt top (now (s .entry)) at) ⌝ }
+{
+    if at < s.len() {
+        if s[at] == b'-' {
+            return spelled_from(true, s, at + 1);
+        }
+    }
+    spelled_from(false, s, at)
+}
+
+// The digits that begin at `at`, with a minus before them or not.
+fn spelled_from(minus: bool, s: &[u8], at: usize) -> Spelled
+    ensures { λ r. ⌜ ((top : ℕ) → top ≤ 2 ^ 127 → fitted top (spelledOf r) ≡ numberFrom top minus (now (s .entry)) at) ⌝ }
 {
     let d = digits_from(s, at);
     let end = d.end;
+    let size = d.value;
     if end == at {
-        Number::Bad
+        Spelled::Nothing
     } else {
-        signed(minus, d.value, end)
+        Spelled::Digits(minus, size, end)
     }
 }
 
 // The run of digits from `at` on.
 fn digits_from(s: &[u8], at: usize) -> Digits
-    ensures { λ r. ⌜ (r .value ≡ min (valueOf (digitsAt (now (s .entry)) at)) (2 ^ 63 + 1)) × (r .end ≡ runEnd isDigit (now (s .entry)) at) ⌝ }
+    ensures { λ r. ⌜ (min (sizeOf (r .value)) (2 ^ 127 + 1) ≡ min (valueOf (digitsAt (now (s .entry)) at)) (2 ^ 127 + 1)) × (r .end ≡ runEnd isDigit (now (s .entry)) at) ⌝ }
 {
-    let mut value: u64 = 0;
+    let mut value = Size { hi: 0, lo: 0 };
     let mut end = at;
     while end < s.len() {
         let b = s[end];
@@ -98,21 +135,47 @@ fn digits_from(s: &[u8], at: usize) -> Digits
     Digits { value, end }
 }
 
-// A value with one more digit, no more than 2^63 + 1.
-fn grown(value: u64, b: u8) -> u64
+// A value with one more digit; above 2^127 any that is.
+fn grown(value: Size, b: u8) -> Size
     requires { ⌜ (48 ≤ b) × (b ≤ 57) ⌝ }
-    ensures { λ r. ⌜ r ≡ min (withDigit value b) (2 ^ 63 + 1) ⌝ }
+    ensures { λ r. ⌜ min (sizeOf r) (2 ^ 127 + 1) ≡ min (withDigit (sizeOf value) b) (2 ^ 127 + 1) ⌝ }
 {
-    if value <= 922337203685477580 {
-        value * 10 + (b - 48) as u64
+    if 0x0fff_ffff_ffff_ffff < value.hi {
+        return Size {
+            hi: u64::MAX,
+            lo: u64::MAX,
+        };
+    }
+    let d = (b - 48) as u64;
+    let low = Size::product(value.lo, 10);
+    let hi = value.hi * 10 + low.hi;
+    let room = u64::MAX - d;
+    if low.lo <= room {
+        Size {
+            hi: hi,
+            lo: low.lo + d,
+        }
     } else {
-        0x8000_0000_0000_0001
+        Size {
+            hi: hi + 1,
+            lo: low.lo - room - 1,
+        }
     }
 }
 
-// A number with its sign, where it fits.
+// A number with its sign, where it fits one word.
+fn short(minus: bool, n: Size, end: usize) -> Number
+    ensures { λ r. ⌜ readOf r ≡ fitted (2 ^ 63) (spelling minus (sizeOf n) end) ⌝ }
+{
+    if n.hi == 0 {
+        signed(minus, n.lo, end)
+    } else {
+        Number::Bad
+    }
+}
+
 fn signed(minus: bool, n: u64, end: usize) -> Number
-    ensures { λ r. ⌜ r ≡ Number·signed minus n end ⌝ }
+    ensures { λ r. ⌜ readOf r ≡ fitted (2 ^ 63) (spelling minus n end) ⌝ }
 {
     if minus {
         if n <= 0x8000_0000_0000_0000 {
@@ -135,4 +198,29 @@ fn negative(n: u64) -> i64
     ensures { λ r. ⌜ r ≡ negℤ (pos n) ⌝ }
 {
     if n == 0 { 0 } else { -1 - ((n - 1) as i64) }
+}
+
+// A number with its sign, where it fits two words.
+fn wide(minus: bool, n: Size, end: usize) -> WideNumber
+    ensures { λ r. ⌜ wideReadOf r ≡ fitted (2 ^ 127) (spelling minus (sizeOf n) end) ⌝ }
+{
+    if n.hi < 0x8000_0000_0000_0000 {
+        return WideNumber::Value(Wide::signed(minus, n), end);
+    }
+    if !minus {
+        return WideNumber::Bad;
+    }
+    if 0x8000_0000_0000_0000 < n.hi {
+        return WideNumber::Bad;
+    }
+    if 0 < n.lo {
+        return WideNumber::Bad;
+    }
+    WideNumber::Value(
+        Wide {
+            hi: -9223372036854775808,
+            lo: 0,
+        },
+        end,
+    )
 }

@@ -35,20 +35,23 @@ part-command-of-end c = within c .1
 command-of-requires : tie.Need-command-of-requires
 command-of-requires c κs = search needs
 
-enum-told : tie.Need-enum-told
-enum-told c = search needs
-
 read-requires : tie.Need-read-requires
 read-requires c κs = search needs
 
 numbers-from-requires : tie.Need-numbers-from-requires
 numbers-from-requires c κs = search needs
 
+sign-requires : tie.Need-sign-requires
+sign-requires c κs = search needs
+
 same-requires : tie.Need-same-requires
 same-requires c κs = search needs
 
-moved-requires : tie.Need-moved-requires
-moved-requires c κs = search needs
+same-requires-2 : tie.Need-same-requires-2
+same-requires-2 c κs = search needs
+
+answered-requires : tie.Need-answered-requires
+answered-requires c κs = search needs
 
 returns : tie.Need-returns
 returns c = search needs
@@ -58,6 +61,9 @@ returns-2 c = search needs
 
 returns-3 : tie.Need-returns-3
 returns-3 c = search needs
+
+returns-4 : tie.Need-returns-4
+returns-4 c = search needs
 
 same-length : tie.Need-same-length
 same-length c = search needs
@@ -72,12 +78,14 @@ reply-spec =
     part-command-of-start
     part-command-of-end
     command-of-requires
-    enum-told
     read-requires
     returns
-    numbers-from-requires
+    sign-requires
     same-requires
     returns-2
-    moved-requires
+    numbers-from-requires
+    same-requires-2
+    returns-3
+    answered-requires
     same-length
-    returns-3)
+    returns-4)

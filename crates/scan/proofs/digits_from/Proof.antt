@@ -1,8 +1,9 @@
 -- `digits_from` meets its contract. The invariant: counting on from here ends as counting from the start does. Assumes nothing.
-use Prim.Native.Nat.{_-_}
+use Prim.Native.Nat.{_+_, _-_, _^_}
 use mathlib.Core.Path.{refl}
 use native.Mathlib.Omega.{arith}
 use lib.ListN.{length, getD}
+use Rattle.words.specs.Meaning.{sizeOf}
 use Rattle.scan.specs.Number.{isDigit}
 use Rattle.scan.proofs.Runs.{run-at-end, run-none}
 use Rattle.scan.proofs.Saturation.{Counted, counted-none, counted-more, isDigit-below, isDigit-above}
@@ -10,12 +11,13 @@ use Rattle.scan.proofs.digits_from.Statement.{statement}
 use Rattle.scan.proofs.digits_from.Tie as tie
 
 abbrev Inv-loop : tie.InvT-loop
-Inv-loop s at value₀ end₀ value end = Counted s at value end
+Inv-loop s at value₀ end₀ value end = Counted (2 ^ 127 + 1) s at (sizeOf value) end
 
 abbrev μ-loop : tie.MeasureT-loop
 μ-loop s at value₀ end₀ value end = length s - end
 
 loop-holds : tie.Need-loop-holds Inv-loop μ-loop
+unfolding sizeOf
 loop-holds c = (refl, refl)
 
 shared-slice-read-b : tie.Need-shared-slice-read-b Inv-loop μ-loop
@@ -33,23 +35,21 @@ loop-less c = omega arith
 loop-again : tie.Need-loop-again Inv-loop μ-loop
 loop-again c =
     let t = c .before .before .before .before .before in
-    rw (c .grown .ensures)
-    (counted-more (t .before .before .args .s .now) (t .before .before .args .at) (t .loop .value) (t .loop .end)
-    (t .loop .inv) (omega arith) (omega arith) (omega arith))
+    counted-more (2 ^ 127 + 1) (t .before .before .args .s .now) (t .before .before .args .at) (sizeOf (t .loop .value)) (t .loop .end) _ (t .loop .inv) (omega arith) (omega arith) (omega arith) (c .grown .ensures)
 
 returns : tie.Need-returns Inv-loop μ-loop
 returns c =
     let t = c .before in
     let s = t .before .before .args .s .now in
     let i = t .loop .end in
-    counted-none s (t .before .before .args .at) (t .loop .value) i (t .loop .inv) (run-at-end isDigit s i (c .loop-test .left))
+    counted-none (2 ^ 127 + 1) s (t .before .before .args .at) (sizeOf (t .loop .value)) i (t .loop .inv) (run-at-end isDigit s i (c .loop-test .left))
 
 returns-2 : tie.Need-returns-2 Inv-loop μ-loop
 returns-2 c =
     let t = c .before .before .before in
     let s = t .before .before .args .s .now in
     let i = t .loop .end in
-    counted-none s (t .before .before .args .at) (t .loop .value) i (t .loop .inv)
+    counted-none (2 ^ 127 + 1) s (t .before .before .args .at) (sizeOf (t .loop .value)) i (t .loop .inv)
     (run-none isDigit s i (omega arith) (isDigit-below (getD s i 0) (c .if1 .taken)))
 
 returns-3 : tie.Need-returns-3 Inv-loop μ-loop
@@ -57,7 +57,7 @@ returns-3 c =
     let t = c .before .before .before .before in
     let s = t .before .before .args .s .now in
     let i = t .loop .end in
-    counted-none s (t .before .before .args .at) (t .loop .value) i (t .loop .inv)
+    counted-none (2 ^ 127 + 1) s (t .before .before .args .at) (sizeOf (t .loop .value)) i (t .loop .inv)
     (run-none isDigit s i (omega arith) (isDigit-above (getD s i 0) (omega arith) (c .if2 .taken)))
 
 pub digits-from-spec : {M : Type 1} → statement M

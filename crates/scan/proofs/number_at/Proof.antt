@@ -1,51 +1,33 @@
--- `number_at` meets its contract. Assumes nothing.
-use mathlib.Core.Path.{_≡_}
-use mathlib.Core.Bool.{false}
-use mathlib.Core.Logic.{⊎-elim}
-use native.Mathlib.Omega.{arith}
+-- `number_at` meets its contract: the digits are judged at 2^63. Assumes nothing.
+use Prim.Native.Nat.{_^_}
+use mathlib.Core.Path.{sym, ap, _∙_}
+use lib.Dec.{lit≤}
 use borrow.Author.Needs.{needs}
-use borrow.Author.Tests.{eq-eqb, ne-eqb}
-use lib.Dec.{eqb}
-use lib.ListN.{getD, List·getD-eq-default}
-use Rattle.scan.specs.Number.{numberAt}
+use Rattle.scan.specs.declared.Spelled.{Spelled}
+use Rattle.scan.specs.Number.{fitted, spelledOf}
 use Rattle.scan.proofs.number_at.Statement.{statement}
 use Rattle.scan.proofs.number_at.Tie as tie
 
-shared-slice-read-if2 : tie.Need-shared-slice-read-if2
-shared-slice-read-if2 c = search needs
+spelled-at-requires : tie.Need-spelled-at-requires
+spelled-at-requires c κs = search needs
 
-add-number-from : tie.Need-add-number-from
-add-number-from c = search needs
+enum-known-n : tie.Need-enum-known-n
+enum-known-n c = search needs
 
-number-from-requires : tie.Need-number-from-requires
-number-from-requires c κs = search needs
+short-requires : tie.Need-short-requires
+short-requires c κs = search needs
+
+enum-told : tie.Need-enum-told
+enum-told c = search needs
 
 returns : tie.Need-returns
-unfolding numberAt
-returns c = rw (eq-eqb _ _ (c .before .if2 .taken)) (c .number-from .ensures)
-
-number-from-requires-2 : tie.Need-number-from-requires-2
-number-from-requires-2 c κs = search needs
-
-no-minus : (c : tie.Joined1) → eqb (getD (c .before .before .args .s .now) (c .before .before .args .at) 0) 45 ≡ false
-no-minus c =
-    let s = c .before .before .args .s .now in
-    let at = c .before .before .args .at in
-    ne-eqb (getD s at 0) 45
-    (⊎-elim (λ w. w .2 .left) (λ w e. omega (arith, e, List·getD-eq-default s 0 (w .left))) (c .if1 .came))
+returns c = c .short .ensures ∙ sym (ap (λ (d : Spelled). fitted (2 ^ 63) (spelledOf d)) (c .before .before .n .given .1)) ∙ c .before .before .before .before .spelled-at .ensures (2 ^ 63) (lit≤ tt)
 
 returns-2 : tie.Need-returns-2
-unfolding numberAt
-returns-2 c =
-    rw (no-minus (c .before)) (c .number-from2 .ensures)
+unfolding fitted
+returns-2 c = sym (ap (λ (d : Spelled). fitted (2 ^ 63) (spelledOf d)) (c .enum-told .given .1)) ∙ c .before .before .spelled-at .ensures (2 ^ 63) (lit≤ tt)
 
 pub number-at-spec : {M : Type 1} → statement M
 number-at-spec =
     tie.close
-    (tie.spec
-    shared-slice-read-if2
-    add-number-from
-    number-from-requires
-    returns
-    number-from-requires-2
-    returns-2)
+    (tie.spec spelled-at-requires enum-known-n short-requires enum-told returns returns-2)

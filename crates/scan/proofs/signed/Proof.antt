@@ -1,7 +1,7 @@
 -- `signed` meets its contract. Assumes nothing.
 use borrow.Author.Needs.{needs, sfits-of}
 use borrow.Author.Tests.{le-leb, lt-leb, lt-ltb, le-ltb}
-use Rattle.scan.specs.Number.{signed}
+use Rattle.scan.specs.Number.{fits, fitted}
 use mir.Syntax.{w64}
 use mir.Facts.{toZ-ofZ, toZ-pos}
 use Rattle.scan.proofs.signed.Statement.{statement}
@@ -14,20 +14,20 @@ cast-t11 : tie.Need-cast-t11
 cast-t11 c = search needs
 
 returns : tie.Need-returns
-unfolding signed
+unfolding fits fitted
 returns c =
     rw (toZ-ofZ (sfits-of (c .negative .ok)), c .negative .ensures, c .before .before .if1 .taken, le-leb _ _ (c .before .if2 .taken))
 
 returns-2 : tie.Need-returns-2
-unfolding signed
+unfolding fits fitted
 returns-2 c = rw (c .before .if1 .taken, lt-leb _ _ (c .if2 .left))
 
 returns-3 : tie.Need-returns-3
-unfolding signed
+unfolding fits fitted
 returns-3 c = rw (c .before .if1 .left, toZ-pos w64 {n = c .before .before .args .n} (c .if3 .taken), lt-ltb _ _ (c .if3 .taken))
 
 returns-4 : tie.Need-returns-4
-unfolding signed
+unfolding fits fitted
 returns-4 c = rw (c .before .if1 .left, le-ltb _ _ (c .if3 .left))
 
 pub signed-spec : {M : Type 1} → statement M

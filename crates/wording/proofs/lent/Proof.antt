@@ -6,11 +6,11 @@ use lib.IntN.{natAbs}
 use lib.Signed.{nonNeg}
 use mir.Facts.{toZ-ofZ}
 use borrow.Author.Tests.{not-true, not-false}
-use Rattle.console.specs.declared.wording.Slice.the-variants.{Length}
-use Rattle.console.specs.Numbers.{lent-negative, lent-length, lent-long}
+use Rattle.wording.specs.declared.Slice.the-variants.{Length}
+use Rattle.wording.specs.Numbers.{lent-negative, lent-length, lent-long}
 use borrow.Author.Needs.{needs}
-use Rattle.console.proofs.wording.lent.Statement.{statement}
-use Rattle.console.proofs.wording.lent.Tie as tie
+use Rattle.wording.proofs.lent.Statement.{statement}
+use Rattle.wording.proofs.lent.Tie as tie
 
 good : (c : tie.Else1) → nonNeg (c .before .before .args .n) ≡ true
 good c = sym (rw (toZ-ofZ (c .before .before .fits .n)) at (c .before .is-nonneg .ensures)) ∙ not-false _ (c .if1 .left)

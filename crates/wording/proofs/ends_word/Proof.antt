@@ -1,10 +1,10 @@
 -- `ends_word` meets its contract. Assumes nothing.
 use mathlib.Core.Path.{refl}
 use borrow.Author.Tests.{lt-ltb, le-ltb}
-use Rattle.console.specs.Numbers.{endsWord}
+use Rattle.wording.specs.Numbers.{endsWord}
 use borrow.Author.Needs.{needs}
-use Rattle.console.proofs.wording.ends_word.Statement.{statement}
-use Rattle.console.proofs.wording.ends_word.Tie as tie
+use Rattle.wording.proofs.ends_word.Statement.{statement}
+use Rattle.wording.proofs.ends_word.Tie as tie
 
 shared-slice-read-result : tie.Need-shared-slice-read-result
 shared-slice-read-result c = search needs

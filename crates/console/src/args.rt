@@ -1,0 +1,108 @@
+// What the numbers of a line are to an entry.
+use integers::Narrow;
+use integers::Short;
+use line::Interval;
+use operator::Operator;
+use ring::Point;
+
+pub enum Four {
+    Point(Point),
+    TooWide,
+}
+
+pub fn point(a: i64, b: i64, c: i64, d: i64) -> Four {
+    let Narrow::Fits(a) = integers::to_i32(a) else {
+        return Four::TooWide;
+    };
+    let Narrow::Fits(b) = integers::to_i32(b) else {
+        return Four::TooWide;
+    };
+    let Narrow::Fits(c) = integers::to_i32(c) else {
+        return Four::TooWide;
+    };
+    let Narrow::Fits(d) = integers::to_i32(d) else {
+        return Four::TooWide;
+    };
+    Four::Point(Point { a, b, c, d })
+}
+
+// Three numbers of 32 bits.
+pub enum Ends {
+    Interval(Interval),
+    TooWide,
+}
+
+pub fn interval(n: i64, lo: i64, hi: i64) -> Ends {
+    let Narrow::Fits(n) = integers::to_i32(n) else {
+        return Ends::TooWide;
+    };
+    let Narrow::Fits(lo) = integers::to_i32(lo) else {
+        return Ends::TooWide;
+    };
+    let Narrow::Fits(hi) = integers::to_i32(hi) else {
+        return Ends::TooWide;
+    };
+    Ends::Interval(Interval { n, lo, hi })
+}
+
+// Four numbers of 16 bits.
+enum Shorts {
+    Fit(i16, i16, i16, i16),
+    TooWide,
+}
+
+fn shorts_of(a: i64, b: i64, c: i64, d: i64) -> Shorts {
+    let Short::Fits(a) = integers::to_i16(a) else {
+        return Shorts::TooWide;
+    };
+    let Short::Fits(b) = integers::to_i16(b) else {
+        return Shorts::TooWide;
+    };
+    let Short::Fits(c) = integers::to_i16(c) else {
+        return Shorts::TooWide;
+    };
+    let Short::Fits(d) = integers::to_i16(d) else {
+        return Shorts::TooWide;
+    };
+    Shorts::Fit(a, b, c, d)
+}
+
+pub enum Eight {
+    Operator(Operator),
+    TooWide,
+}
+
+// The operator of the first eight numbers.
+pub fn operator_of(n: [i64; 16]) -> Eight {
+    operator_from(
+        shorts_of(n[0], n[1], n[2], n[3]),
+        shorts_of(n[4], n[5], n[6], n[7]),
+    )
+}
+
+// The operator of the last eight numbers.
+pub fn second_of(n: [i64; 16]) -> Eight {
+    operator_from(
+        shorts_of(n[8], n[9], n[10], n[11]),
+        shorts_of(n[12], n[13], n[14], n[15]),
+    )
+}
+
+fn operator_from(one: Shorts, i: Shorts) -> Eight {
+    let Shorts::Fit(a, b, c, d) = one else {
+        return Eight::TooWide;
+    };
+    let Shorts::Fit(ai, bi, ci, di) = i else {
+        return Eight::TooWide;
+    };
+    Eight::Operator(Operator {
+        a,
+        b,
+        c,
+        d,
+        ai,
+        bi,
+        ci,
+        di,
+    })
+}
