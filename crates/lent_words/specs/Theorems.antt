@@ -1,6 +1,6 @@
 -- Document 02, Ticket 6: what is true of the words, for all k, u and t that solve the equation of Ticket 2.
-use mathlib.Core.Path.{_≡_, refl, sym, _∙_, ap}
-use mathlib.Core.Bool.{Bool, true, false}
+use mathlib.Core.Path.{_≡_, sym, _∙_, ap}
+use mathlib.Core.Bool.{true, false}
 use mathlib.Core.List.{List}
 use Prim.Native.Nat.{ℕ, _-_, _*_, _≤_, _<_, min}
 use native.Mathlib.Omega.{arith}
@@ -15,7 +15,7 @@ use Rattle.spelling.specs.Bits.{pick}
 use Rattle.spelling.specs.Points.{turn}
 use Rattle.spelling.specs.Table.{Letter}
 use Rattle.spelling.specs.Word.{Ts}
-use Rattle.spelling.specs.Matrix.{matrix, _·_, Spells, made}
+use Rattle.spelling.specs.Matrix.{matrix, Spells, made}
 use Rattle.spelling.specs.Least.{equation-turn}
 use Rattle.spelling.specs.Number.{least-Ts}
 use Rattle.spelling.specs.Exact as Exact
