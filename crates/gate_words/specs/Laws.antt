@@ -1,30 +1,29 @@
 -- How each answer is reached, and what its part is.
-use mathlib.Core.Path.{_≡_, refl, sym, _∙_, ap, ap₂, subst}
+use mathlib.Core.Path.{_≡_, refl, sym, _∙_, ap, ap₂}
 use mathlib.Core.Bool.{Bool, true, false, not, _&&_}
-use mathlib.Core.List.{List, [], _++_}
+use mathlib.Core.List.{List}
 use Prim.Native.Nat.{ℕ, _≤_, _<_}
 use native.Mathlib.Omega.{arith}
 use lib.Dec.{leb, ltb}
 use lib.IntN.{_+ℤ_, _-ℤ_, _*ℤ_, +ℤ-assoc}
-use lib.ListN.{length, take, drop, length-append, length-drop}
+use lib.ListN.{length, take, drop}
 use lib.Seq.{take-at}
-use borrow.Author.Tests.{leb-true, le-leb, lt-ltb, le-ltb}
+use borrow.Author.Tests.{lt-ltb, le-ltb}
 use Rattle.ring.specs.declared.Point.{Point}
 use Rattle.equation.specs.Equation.{squares, cross, completes}
 use Rattle.equation.specs.Tests.{both-true, same-true}
 use Rattle.ranges.specs.Ranges.{topScale}
-use Rattle.spelling.specs.Bits.{both, pick, both-split}
+use Rattle.spelling.specs.Bits.{both, pick}
 use Rattle.spelling.specs.Points.{N, F}
 use Rattle.spelling.specs.State.{Equation}
 use Rattle.spelling.specs.Table.{Letter}
-use Rattle.spelling.specs.Word.{Ts}
 use Rattle.gates.specs.declared.letters.Word.{Word}
 use Rattle.gates.specs.Written.{written, bytes, tally, tally-is, length-bytes, Writes}
 use Rattle.gate_words.specs.declared.Refusal.the-variants.{OutOfRange, NotUnitary, NoRoom}
 use Rattle.gate_words.specs.declared.Answer.{Answer}
 use Rattle.gate_words.specs.declared.Answer.the-variants.{First, Second, Refused}
 use Rattle.gate_words.specs.declared.Part.{Part}
-use Rattle.gate_words.specs.Words.{number, isSecond, lengthOf, isSpelled, wordU, wordTUT, isFewer, handed, fit, answerOf, laid, answer, firstAfter, secondAfter, named, handedBack, Spells, Hands, answerTo}
+use Rattle.gate_words.specs.Words.{number, isSecond, lengthOf, isSpelled, wordU, wordTUT, isFewer, handed, fit, answerOf, laid, answer, named, handedBack, Spells, Hands, answerTo}
 
 -- ---- `decide`
 decided : (b c : Bool) → not b ≡ c → b ≡ not c

@@ -1,17 +1,16 @@
 -- What holds while syllables are written: those that are left fit, and numbers stay small.
 use mathlib.Core.Path.{_≡_, refl, sym, _∙_, ap, subst}
 use mathlib.Core.Bool.{Bool, true, false}
-use mathlib.Core.List.{List, [], _∷_, _++_}
+use mathlib.Core.List.{_++_}
 use Prim.Native.Nat.{ℕ, zero, suc, _+_, _-_, _*_, _%_, _^_, _≤_, _<_}
 use native.Mathlib.Omega.{arith}
-use lib.Dec.{eqb}
 use lib.ListN.{length}
 use borrow.Author.Tests.{eq-eqb, ne-eqb}
 use Rattle.ranges.specs.Ranges.{topScale}
 use Rattle.spelling.specs.declared.State.{State}
 use Rattle.spelling.specs.Bits.{pick, odd, none}
 use Rattle.spelling.specs.Parities.{parities}
-use Rattle.spelling.specs.State.{Equation, isPlain, isBare, plus, less, next, Stage, last, odds, sides, Ready, Narrow}
+use Rattle.spelling.specs.State.{isPlain, isBare, plus, next, Stage, last, odds, sides, Ready, Narrow}
 use Rattle.spelling.specs.Step.{step, next-even, next-not}
 use Rattle.spelling.specs.Table.{tail}
 use Rattle.spelling.specs.Word.{syllable, syllables, bareAtZero, body}

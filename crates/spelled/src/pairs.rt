@@ -16,16 +16,16 @@ pub fn compare(s: &[u8]) -> Tally {
 }
 
 fn right(s: &[u8], at: usize, r: Row) -> bool {
-    let mut first = [b'.'; 256];
-    let mut second = [b'.'; 256];
+    let mut first = [b'.'; 128];
+    let mut second = [b'.'; 128];
     answered(s, at, r, &mut first, &mut second)
 }
 
 // Whether the call's answer is the row's. The slices hold dots, and parts of them are lent.
 fn answered<'a>(s: &[u8], at: usize, r: Row, first: &'a mut [u8], second: &'a mut [u8]) -> bool {
     let n = r.numbers;
-    let x = row::size(n[9], 256) as usize;
-    let y = row::size(n[10], 256) as usize;
+    let x = row::size(n[9], 128) as usize;
+    let y = row::size(n[10], 128) as usize;
     if first.len() < x {
         return false;
     }

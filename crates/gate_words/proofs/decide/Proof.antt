@@ -1,4 +1,3 @@
-use mathlib.Core.Path.{sym, ap}
 use native.Mathlib.Omega.{arith}
 use Rattle.gate_words.specs.Laws.{decide-none, decide-second, decide-first}
 use borrow.Author.Needs.{needs}

@@ -1,12 +1,10 @@
 use mathlib.Core.Path.{_≡_, sym, _∙_, ap}
-use mathlib.Core.Bool.{true}
 use mathlib.Core.List.{_++_}
 use Prim.Native.Nat.{_≤_}
 use native.Mathlib.Omega.{arith}
 use lib.ListN.{length, drop}
 use lib.Seq.{length-take-le, take-length}
 use Rattle.spelling.specs.Bits.{pick}
-use Rattle.gates.specs.declared.letters.Word.{Word}
 use Rattle.gates.specs.Written.{written}
 use Rattle.gate_words.specs.Words.{laid}
 use borrow.Author.Needs.{needs}

@@ -1,13 +1,10 @@
-use mathlib.Core.Path.{_≡_, sym, _∙_, ap, ap₂}
-use mathlib.Core.Bool.{true, false, _&&_}
-use Prim.Native.Nat.{_≤_}
-use native.Mathlib.Omega.{arith}
+use mathlib.Core.Path.{_≡_, sym, _∙_}
+use mathlib.Core.Bool.{true}
 use lib.Dec.{leb}
 use lib.ListN.{length}
 use borrow.Author.Tests.{leb-true}
 use Rattle.ranges.specs.Ranges.{topScale}
 use Rattle.equation.specs.Equation.{completes}
-use Rattle.gate_words.specs.Words.{Spells}
 use Rattle.gate_words.specs.Laws.{and-split, fits-is, unless, given, fails, holds, solves, out-of-range, not-unitary, spells}
 use borrow.Author.Needs.{needs}
 use Rattle.gate_words.proofs.spell.Statement.{statement}

@@ -1,6 +1,3 @@
-use mathlib.Core.Path.{_∙_, ap}
-use mathlib.Core.Bool.{true, false}
-use mathlib.Core.List.{[], _∷_, _++_}
 use native.Mathlib.Omega.{arith}
 use Rattle.gates.specs.Written.{written, two-more, three-more}
 use borrow.Author.Needs.{needs}

@@ -5,7 +5,7 @@ use native.Mathlib.Omega.{arith}
 use lib.ListN.{length, take, getD}
 use lib.Seq.{take-suc}
 use borrow.Author.Needs.{needs}
-use Rattle.gates.specs.Written.{one, tally, tally-more, one-small}
+use Rattle.gates.specs.Written.{tally, tally-more, one-small}
 use Rattle.gates.proofs.letters.ts.Statement.{statement}
 use Rattle.gates.proofs.letters.ts.Tie as tie
 

@@ -1,6 +1,5 @@
-use mathlib.Core.Path.{sym, subst}
+use mathlib.Core.Path.{subst}
 use native.Mathlib.Omega.{arith}
-use Rattle.spelling.specs.State.{Equation}
 use Rattle.spelling.specs.Word.{word}
 use Rattle.spelling.specs.Least.{equation-turn}
 use Rattle.spelling.specs.Length.{narrow}

@@ -1,4 +1,4 @@
-use mathlib.Core.Path.{_≡_, sym, _∙_, ap}
+use mathlib.Core.Path.{sym, _∙_, ap}
 use Rattle.gates.specs.Start.{start}
 use borrow.Author.Needs.{needs}
 use Rattle.gates.proofs.spell.start.Statement.{statement}

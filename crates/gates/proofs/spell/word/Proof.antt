@@ -1,4 +1,4 @@
-use mathlib.Core.Path.{_≡_, sym}
+use mathlib.Core.Path.{sym}
 use native.Mathlib.Omega.{arith}
 use Rattle.gates.specs.Start.{low, no-phase, solved, staged, start-low, start-phase, starts-going, writes}
 use borrow.Author.Needs.{needs}

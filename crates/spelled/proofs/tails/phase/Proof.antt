@@ -1,5 +1,4 @@
 use Prim.Native.Nat.{_-_}
-use lib.ListN.{length}
 use borrow.Author.Needs.{needs}
 use Rattle.spelled.proofs.tails.phase.Statement.{statement}
 use Rattle.spelled.proofs.tails.phase.Tie as tie
