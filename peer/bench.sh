@@ -150,7 +150,38 @@ candidates() {
     done
 }
 
+# each CALL: microseconds of a console for one call, over ten inputs of 1,000.
+each() {
+    local i TIMEFORMAT='%U %S'
+    for ((i = 0; i < 1000; i++)); do echo "$1"; done >"$scratch/in"
+    { time for i in {1..10}; do "$bin/console" <"$scratch/in" >/dev/null; done; } 2>"$scratch/time"
+    awk '{ printf "%.2f", ($1 + $2) * 100 }' "$scratch/time"
+}
+
+# all PROBLEM: microseconds of the peer for a whole problem, over a hundred runs.
+all() {
+    local i TIMEFORMAT='%U %S'
+    # shellcheck disable=SC2086
+    { time for i in {1..100}; do "$peer" line $1 >"$scratch/printed"; done; } 2>"$scratch/time"
+    awk '{ printf "%.0f", ($1 + $2) * 10000 }' "$scratch/time"
+}
+
+# The first call and the first run are refused: what they take is not the search's.
+lines() {
+    local row='%-32s %10s %10s %10s %8s\n' problem
+    echo 'The line problem, microseconds: the first pair and whether there are more, 100 pairs, all pairs by the peer and how many'
+    # shellcheck disable=SC2059
+    printf "$row" problem first hundred peer pairs
+    for problem in '101 0 0 1 -10000 10000' '1 17 17 1 -10000 10000' '100 5 6 1 -10000 10000' '10 55 56 1 -10000 10000' '1 5 6 1 -10000 10000' \
+        '1 -10000 10000 7 -50 -50' '1 -10000 10000 100 -2358 -2357' '1 -10000 10000 70 -3728 -3721' '100 -10000 10000 100 -10000 10000'; do
+        # shellcheck disable=SC2059
+        printf "$row" "$problem" "$(each "line $problem 2")" "$(each "line $problem 200")" "$(all "$problem")" "$(wc -l <"$scratch/printed")"
+    done
+}
+
 whole_lists
+echo
+lines
 echo
 calls
 echo
