@@ -80,7 +80,7 @@ fn read_bytes(s: Session, bytes: &[u8], n: usize) -> Reply {
     if bytes.len() < n {
         return same(s, Line::Bad);
     }
-    replied(session::read(s, &bytes[..n]))
+    replied(held::read(s, &bytes[..n]))
 }
 
 // The numbers that a line may lend.
@@ -106,7 +106,7 @@ fn hand_out(s: Session, space: &mut [i32], k: usize) -> Reply {
     if space.len() < k {
         return same(s, Line::Bad);
     }
-    replied(session::hand_out(s, &mut space[..k]))
+    replied(held::hand_out(s, &mut space[..k]))
 }
 
 // `rewind`, `clear`, `plain`, `propose`, without a number.
@@ -115,9 +115,9 @@ pub fn alone(s: Session, c: usize, n: Numbers) -> Reply {
         return same(s, Line::Bad);
     }
     match c {
-        wording::REWIND => replied(session::rewind(s)),
-        wording::CLEAR => replied(session::clear(s)),
-        wording::PLAIN => same(s, answered(session::has_solution(s))),
+        wording::REWIND => replied(held::rewind(s)),
+        wording::CLEAR => replied(held::clear(s)),
+        wording::PLAIN => same(s, answered(held::has_solution(s))),
         _ => same(s, propose(s)),
     }
 }
@@ -138,7 +138,7 @@ pub fn image(s: Session, n: Numbers) -> Line {
     }
     let v = args::point(n.values[0], n.values[1], n.values[2], n.values[3]);
     match v {
-        Four::Point(w) => answered(session::has_image(s, w)),
+        Four::Point(w) => answered(held::has_image(s, w)),
         Four::TooWide => Line::Bad,
     }
 }

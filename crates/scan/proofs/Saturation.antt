@@ -45,9 +45,10 @@ module _ (C : ℕ) (s : List ℕ) (at n i : ℕ) where
       → min m C ≡ min (withDigit n (getD s i 0)) C → (min (foldl withDigit m (digitsAt s (i + 1))) C ≡ min (valueOf (digitsAt s at)) C) × (runEnd isDigit s (i + 1) ≡ runEnd isDigit s at)
   counted-more m h l low high grown =
       let e = isDigit-within (getD s i 0) low high in
-      let rest = digitsAt s (i + 1) in
-      (sym (foldl-capped C rest m) ∙ ap (λ (x : ℕ). foldl (capped C) x rest) grown ∙ foldl-capped C rest (withDigit n (getD s i 0)) ∙ sym (ap (λ (ds : List ℕ). min (foldl withDigit n ds) C) (run-more isDigit s i l e)) ∙ h .0,
-      runEnd-more isDigit s i l e ∙ h .1)
+      let rest = digitsAt s (i + 1) in (
+        sym (foldl-capped C rest m) ∙ ap (λ (x : ℕ). foldl (capped C) x rest) grown ∙ foldl-capped C rest (withDigit n (getD s i 0)) ∙ sym (ap (λ (ds : List ℕ). min (foldl withDigit n ds) C) (run-more isDigit s i l e)) ∙ h .0,
+        runEnd-more isDigit s i l e ∙ h .1,
+      )
 
 pub fits-small : (top : ℕ) (minus : Bool) (n : ℕ) → n < top → fits top minus n ≡ true
 unfolding fits

@@ -10,27 +10,49 @@ use words::Wide;
 
 // The commands: the places of their names among the names.
 pub const READ: usize = 0;
+
 pub const HAND: usize = 1;
+
 pub const REWIND: usize = 2;
+
 pub const CLEAR: usize = 3;
+
 pub const PLAIN: usize = 4;
+
 pub const IMAGE: usize = 5;
+
 pub const PROPOSE: usize = 6;
+
 pub const SIGN: usize = 7;
+
 pub const LINE: usize = 8;
+
 pub const OPERATOR: usize = 9;
+
 pub const APPLY: usize = 10;
+
 pub const INVERSE: usize = 11;
+
 pub const MATRIX: usize = 12;
+
 pub const PRODUCT: usize = 13;
+
 pub const DETERMINANT: usize = 14;
+
 pub const EXPONENT: usize = 15;
+
 pub const REAL: usize = 16;
+
 pub const IMAGINARY: usize = 17;
+
 pub const DIVIDE: usize = 18;
+
 pub const LAMBDA: usize = 19;
+
 pub const OMEGA: usize = 20;
+
 pub const DELTA: usize = 21;
+
 pub const IDENTITY: usize = 22;
 
 // The numbers after the first word, at most 16, where the words are good.

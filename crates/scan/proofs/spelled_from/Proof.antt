@@ -5,7 +5,6 @@ use native.Mathlib.Omega.{arith}
 use borrow.Author.Needs.{needs}
 use borrow.Author.Tests.{eq-eqb, ne-eqb}
 use lib.ListN.{length}
-use Rattle.words.specs.Meaning.{sizeOf}
 use Rattle.scan.specs.Run.{runEnd}
 use Rattle.scan.specs.Number.{digitsAt, valueOf, fitted, numberFrom}
 use Rattle.scan.proofs.Saturation.{fitted-capped}

@@ -1,6 +1,6 @@
 -- `place_of` meets its contract: the words passed and the place of the word among the others are its place among all. Assumes nothing.
 use Prim.Native.Nat.{ℕ, suc, _+_, _-_, _≤_, _<_}
-use mathlib.Core.Path.{_≡_, refl, sym, ap, _∙_}
+use mathlib.Core.Path.{_≡_, sym, ap, _∙_}
 use mathlib.Core.Bool.{Bool, true, false}
 use mathlib.Core.List.{List}
 use native.Mathlib.Nat.{le-of-lt}
@@ -8,7 +8,7 @@ use native.Mathlib.Omega.{arith}
 use lib.ListN.{length, take, drop, length-drop, drop-of-length-le}
 use lib.Seq.{drop-drop}
 use borrow.Author.Needs.{needs}
-use Rattle.scan.specs.Run.{isByte, runEnd, wordEnd, runEnd-within}
+use Rattle.scan.specs.Run.{isByte, runEnd, runEnd-within}
 use Rattle.wording.specs.Names.{isName, placeOf, wordsOf, front, name-told, front-take, place-here, place-later}
 use Rattle.wording.proofs.place_of.Statement.{statement}
 use Rattle.wording.proofs.place_of.Tie as tie

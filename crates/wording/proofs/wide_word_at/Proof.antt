@@ -5,7 +5,6 @@ use mathlib.Core.List.{List}
 use lib.IntN.{ℤ}
 use Rattle.words.specs.Meaning.{meaning}
 use borrow.Author.Needs.{needs}
-use borrow.Author.Tests.{not-true}
 use Rattle.scan.specs.Number.{value as number, wideReadOf, numberAt}
 use Rattle.wording.specs.Numbers.{word-none, word-run-on, word-whole}
 use Rattle.wording.proofs.wide_word_at.Statement.{statement}

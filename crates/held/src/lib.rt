@@ -1,0 +1,64 @@
+// A session of one's own, lent to the calls of the bench: each takes the session, lends it for the call, and has it back with the answer.
+ghost use mathlib.Core.List.{[]};
+ghost use Rattle.calls.specs.Session.{reading, rewind as rewinding, clear as clearing, plain, imageOf};
+ghost use Rattle.session.specs.Session.{Steps, Hands};
+use ring::Point;
+use session::Answer;
+use session::Outcome;
+use session::Session;
+
+pub fn read(s: Session, bytes: &[u8]) -> Outcome
+    ensures { λ r. ⌜ Steps (reading (now (bytes .entry))) [] s (r .session) (r .answer) ⌝ }
+{
+    let mut left = s;
+    let answer = bench::read(&mut left, bytes);
+    Outcome {
+        session: left,
+        answer: answer,
+    }
+}
+
+pub fn hand_out(s: Session, out: &mut [i32]) -> Outcome
+    ensures { λ r. ⌜ Hands s (now (out .entry)) (now (out .exit)) (r .session) (r .answer) ⌝ }
+{
+    let mut left = s;
+    let answer = bench::hand_out(&mut left, out);
+    Outcome {
+        session: left,
+        answer: answer,
+    }
+}
+
+pub fn rewind(s: Session) -> Outcome
+    ensures { λ r. ⌜ Steps rewinding [] s (r .session) (r .answer) ⌝ }
+{
+    let mut left = s;
+    let answer = bench::rewind(&mut left);
+    Outcome {
+        session: left,
+        answer: answer,
+    }
+}
+
+pub fn clear(s: Session) -> Outcome
+    ensures { λ r. ⌜ Steps clearing [] s (r .session) (r .answer) ⌝ }
+{
+    let mut left = s;
+    let answer = bench::clear(&mut left);
+    Outcome {
+        session: left,
+        answer: answer,
+    }
+}
+
+pub fn has_solution(s: Session) -> Answer
+    ensures { λ r. ⌜ Steps plain [] s s r ⌝ }
+{
+    bench::has_solution(&s)
+}
+
+pub fn has_image(s: Session, w: Point) -> Answer
+    ensures { λ r. ⌜ Steps (imageOf w) [] s s r ⌝ }
+{
+    bench::has_image(&s, w)
+}
