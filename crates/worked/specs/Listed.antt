@@ -1,4 +1,4 @@
--- The full list of a job with small regions: a test that computes decides whether given points are all of it, in order.
+-- The full list of a job with small regions, and that of a matrix entry at a small scale: a test that computes decides whether given points are all of it, in order.
 use mathlib.Core.Path.{_≡_, refl, sym, _∙_, ap, ap₂, subst}
 use mathlib.Core.Bool.{Bool, true, false}
 use mathlib.Core.List.{List, [], _∷_, _++_, List·Memᴰ, List·Memᴰ·head, List·Memᴰ·tail, List·Memᴰ·not-nil, List·Memᴰ·cases-cons}
@@ -7,7 +7,7 @@ use Prim.Native.Nat.{ℕ, zero, suc, _+_, _-_, _≤_, _<_}
 use native.Mathlib.Decide.{decLt}
 use native.Mathlib.Omega.{arith}
 use lib.Dec.{T, leb, leb→le}
-use lib.IntN.{ℤ, pos, negsuc, negℤ, _+ℤ_, _-ℤ_}
+use lib.IntN.{ℤ, pos, negsuc, negℤ, natAbs, _+ℤ_, _-ℤ_}
 use lib.Signed.{leZ, leZ-yes}
 use Rattle.integers.specs.Difference.{_≼_, ≤→ℕ}
 use Rattle.integers.specs.RingZ.{by-ring, polyZ}
@@ -19,10 +19,15 @@ use Rattle.region.specs.Region.{solves}
 use Rattle.region.specs.Parts.{solvesParts, solves-is}
 use Rattle.ranks.specs.Members.{Rising}
 use Rattle.ranks.specs.Handed.{flat}
-use Rattle.walk.specs.Walk.{pointOf, numbersOf, full, rankOf}
-use Rattle.walk.specs.Points.{point-rank}
-use Rattle.walk.specs.Full.{solution-fits, Listed, full-unique}
-use Rattle.worked.specs.Bounded.{both, both-left, both-right, inBox, Within, in-box}
+use Rattle.points.specs.Points.{Fits32, pointOf, rankOf, numbersOf, point-rank}
+use Rattle.points.specs.Listed.{Listed, passing, all-unique}
+use Rattle.walk.specs.Walk.{full}
+use Rattle.walk.specs.Full.{solution-fits}
+use Rattle.equation.specs.Equation.{completes, topScale}
+use Rattle.equation.specs.Size.{Within, half, solution-within}
+use Rattle.entry.specs.Entry.{full as entries}
+use Rattle.entry.specs.Full.{solution-fits as entry-fits}
+use Rattle.worked.specs.Bounded.{both, both-left, both-right, inBox, Within as Boxed, in-box}
 
 -- ---- points that are the same
 abbrev pub same : ℤ → ℤ → Bool
@@ -60,13 +65,12 @@ record Index (m : ℕ) (z : ℤ) : Type 0 where
   low : at < suc (m + m)
   is : pos at -ℤ pos m ≡ z
 
-index : (m : ℕ) (z : ℤ) → z ≼ pos m → negℤ z ≼ pos m → Index m z
-index m (pos n) h k = let l = ≤→ℕ (pos n) (pos m) h in record { at = n + m; low = omega arith; is = back (pos n) (pos m) }
+index : (m : ℕ) (z : ℤ) → natAbs z ≤ m → Index m z
+index m (pos n) h = record { at = n + m; low = omega arith; is = back (pos n) (pos m) }
   where
     back : (x y : ℤ) → x +ℤ y -ℤ y ≡ x
     back x y = by-ring (x ∷ y ∷ []) (search polyZ depth 30) refl
-index m (negsuc n) h k =
-    let l = ≤→ℕ (pos (suc n)) (pos m) k in
+index m (negsuc n) h =
     let r = m - suc n in
     let e : m ≡ suc n + r = omega arith in
     record { at = r; low = omega arith; is = ap (λ (k : ℕ). pos r -ℤ pos k) e ∙ back (pos (suc n)) (pos r) }
@@ -81,12 +85,12 @@ pointIn m a b c d = record { a = pos a -ℤ pos m; b = pos b -ℤ pos m; c = pos
 abbrev everyPoint : ℕ → (Point → Bool) → Bool
 everyPoint m f = let w = suc (m + m) in every w (λ a. every w (λ b. every w (λ c. every w (λ d. f (pointIn m a b c d)))))
 
-every-point : (j : Job) (m : ℕ) (f : Point → Bool) → T (everyPoint m f) → (z : Point) → Within j m z → T (f z)
-every-point j m f t z w =
-    let a = index m (z .a) (w .a-to) (w .a-from) in
-    let b = index m (z .b) (w .b-to) (w .b-from) in
-    let c = index m (z .c) (w .c-to) (w .c-from) in
-    let d = index m (z .d) (w .d-to) (w .d-from) in
+every-point : (m : ℕ) (f : Point → Bool) → T (everyPoint m f) → (z : Point) → Within m z → T (f z)
+every-point m f t z w =
+    let a = index m (z .a) (w .a) in
+    let b = index m (z .b) (w .b) in
+    let c = index m (z .c) (w .c) in
+    let d = index m (z .d) (w .d) in
     let n = suc (m + m) in
     let ta = every-is n (λ a. every n (λ b. every n (λ c. every n (λ d. f (pointIn m a b c d))))) t (a .at) (a .low) in
     let tb = every-is n (λ b. every n (λ c. every n (λ d. f (pointIn m (a .at) b c d)))) ta (b .at) (b .low) in
@@ -107,9 +111,9 @@ abbrev unless : Bool → Bool → Bool
 unless true b = b
 unless false b = true
 
-abbrev allSolve : Job → List Point → Bool
-allSolve j [] = true
-allSolve j (p ∷ ps) = both (solvesParts j p) (allSolve j ps)
+abbrev allPass : (Point → Bool) → List Point → Bool
+allPass f [] = true
+allPass f (p ∷ ps) = both (f p) (allPass f ps)
 
 abbrev rising : ℕ → List ℕ → Bool
 rising lo [] = true
@@ -123,9 +127,17 @@ abbrev pub numbers : List Point → List ℤ
 numbers [] = []
 numbers (p ∷ ps) = p .a ∷ p .b ∷ p .c ∷ p .d ∷ numbers ps
 
--- all solutions lie within ±m; each of those points that solves is given; those given solve, and their ranks rise
+-- each point within ±m that passes is given; those given pass, and their ranks rise
+abbrev wholeBy : (Point → Bool) → ℕ → List Point → Bool
+wholeBy f m ps = both (everyPoint m (λ v. unless (f v) (member v ps))) (both (allPass f ps) (rising 0 (ranksOf ps)))
+
+-- of a job, all of whose solutions lie within ±m
 abbrev pub wholeList : Job → ℕ → List Point → Bool
-wholeList j m ps = both (inBox j m) (both (everyPoint m (λ v. unless (solvesParts j v) (member v ps))) (both (allSolve j ps) (rising 0 (ranksOf ps))))
+wholeList j m ps = both (inBox j m) (wholeBy (solvesParts j) m ps)
+
+-- of a matrix entry, where they lie within ±2^⌈k/2⌉
+abbrev pub wholeEntry : ℕ → Point → List Point → Bool
+wholeEntry k v ps = both (leb k topScale) (wholeBy (completes k v) (half k) ps)
 
 -- ---- the law
 T-of : (b : Bool) → b ≡ true → T b
@@ -152,33 +164,51 @@ member-mem v (p ∷ ps) t = go (samePoint v p) refl t (member-mem v ps)
     go true e t more = List·Memᴰ·head (ap rankOf (same-point v p (T-of _ e)))
     go false e t more = List·Memᴰ·tail (more t)
 
-module _ (j : Job) where
-  solves-of : (p : Point) → T (solvesParts j p) → solves j p ≡ true
-  solves-of p t = solves-is j p ∙ is-true _ t
+-- a test t, in a form f that computes
+module _ (t f : Point → Bool) (is : (v : Point) → t v ≡ f v) (fits : (v : Point) → t v ≡ true → Fits32 v) where
+  passes : (p : Point) → T (f p) → t p ≡ true
+  passes p i = is p ∙ is-true _ i
 
-  mem-solves : (ps : List Point) → T (allSolve j ps) → (r : ℕ) → List·Memᴰ r (ranksOf ps) → solves j (pointOf r) ≡ true
-  mem-solves [] t r m = absurd (List·Memᴰ·not-nil m)
-  mem-solves (p ∷ ps) t r m =
-      let s = solves-of p (both-left (solvesParts j p) (allSolve j ps) t) in
-      ⊎-elim (λ e. ap (λ (n : ℕ). solves j (pointOf n)) e ∙ ap (solves j) (point-rank p (solution-fits j p s)) ∙ s) (λ k. mem-solves ps (both-right (solvesParts j p) (allSolve j ps) t) r k) (List·Memᴰ·cases-cons m)
+  mem-passes : (ps : List Point) → T (allPass f ps) → (r : ℕ) → List·Memᴰ r (ranksOf ps) → t (pointOf r) ≡ true
+  mem-passes [] i r m = absurd (List·Memᴰ·not-nil m)
+  mem-passes (p ∷ ps) i r m =
+      let s = passes p (both-left (f p) (allPass f ps) i) in
+      ⊎-elim (λ e. ap (λ (n : ℕ). t (pointOf n)) e ∙ ap t (point-rank p (fits p s)) ∙ s) (λ k. mem-passes ps (both-right (f p) (allPass f ps) i) r k) (List·Memᴰ·cases-cons m)
 
-  flat-numbers : (ps : List Point) → T (allSolve j ps) → flat numbersOf (ranksOf ps) ≡ numbers ps
-  flat-numbers [] t = refl
-  flat-numbers (p ∷ ps) t =
-      let e = point-rank p (solution-fits j p (solves-of p (both-left (solvesParts j p) (allSolve j ps) t))) in
-      ap₂ (λ (v : Point) (l : List ℤ). v .a ∷ v .b ∷ v .c ∷ v .d ∷ l) e (flat-numbers ps (both-right (solvesParts j p) (allSolve j ps) t))
+  flat-numbers : (ps : List Point) → T (allPass f ps) → flat numbersOf (ranksOf ps) ≡ numbers ps
+  flat-numbers [] i = refl
+  flat-numbers (p ∷ ps) i =
+      let e = point-rank p (fits p (passes p (both-left (f p) (allPass f ps) i))) in
+      ap₂ (λ (v : Point) (l : List ℤ). v .a ∷ v .b ∷ v .c ∷ v .d ∷ l) e (flat-numbers ps (both-right (f p) (allPass f ps) i))
 
-  pub whole-list : (m : ℕ) (ps : List Point) → T (wholeList j m ps) → flat numbersOf (full j) ≡ numbers ps
-  whole-list m ps t =
-      let every = everyPoint m (λ v. unless (solvesParts j v) (member v ps)) in
-      let r = both-right (inBox j m) (both every (both (allSolve j ps) (rising 0 (ranksOf ps)))) t in
-      let q = both-right every (both (allSolve j ps) (rising 0 (ranksOf ps))) r in
-      let solve = both-left (allSolve j ps) (rising 0 (ranksOf ps)) q in
-      let there : (v : Point) → solves j v ≡ true → Listed (ranksOf ps) v =
+  whole-by : (m : ℕ) → ((v : Point) → t v ≡ true → Within m v) → (ps : List Point) → T (wholeBy f m ps) → flat numbersOf (passing t 0) ≡ numbers ps
+  whole-by m bounded ps i =
+      let every = everyPoint m (λ v. unless (f v) (member v ps)) in
+      let q = both-right every (both (allPass f ps) (rising 0 (ranksOf ps))) i in
+      let pass = both-left (allPass f ps) (rising 0 (ranksOf ps)) q in
+      let there : (v : Point) → t v ≡ true → Listed (ranksOf ps) v =
       λ v e.
-      let w = in-box j m (both-left (inBox j m) (both every (both (allSolve j ps) (rising 0 (ranksOf ps)))) t) v e in
-      let k = unless-is (solvesParts j v) (member v ps) (every-point j m (λ v. unless (solvesParts j v) (member v ps)) (both-left every (both (allSolve j ps) (rising 0 (ranksOf ps))) r) v w) (sym (solves-is j v) ∙ e) in
-      record { at = rankOf v; held = member-mem v ps k; point = point-rank v (solution-fits j v e) } in
-      let full-is = full-unique j (ranksOf ps) (rising-is 0 (ranksOf ps) (both-right (allSolve j ps) (rising 0 (ranksOf ps)) q))
-      (λ v. (there v, (λ h. subst (λ w. solves j w ≡ true) (h .point) (mem-solves ps solve (h .at) (h .held))))) in
-      ap (flat numbersOf) (sym full-is) ∙ flat-numbers ps solve
+      let k = unless-is (f v) (member v ps) (every-point m (λ v. unless (f v) (member v ps)) (both-left every (both (allPass f ps) (rising 0 (ranksOf ps))) i) v (bounded v e)) (sym (is v) ∙ e) in
+      record { at = rankOf v; held = member-mem v ps k; point = point-rank v (fits v e) } in
+      let all-is = all-unique t fits (ranksOf ps) (rising-is 0 (ranksOf ps) (both-right (allPass f ps) (rising 0 (ranksOf ps)) q))
+      (λ v. (there v, (λ h. subst (λ w. t w ≡ true) (h .point) (mem-passes ps pass (h .at) (h .held))))) in
+      ap (flat numbersOf) (sym all-is) ∙ flat-numbers ps pass
+
+pub whole-list : (j : Job) (m : ℕ) (ps : List Point) → T (wholeList j m ps) → flat numbersOf (full j) ≡ numbers ps
+unfolding full
+whole-list j m ps i =
+    let box = both-left (inBox j m) (wholeBy (solvesParts j) m ps) i in
+    whole-by (solves j) (solvesParts j) (solves-is j) (solution-fits j) m (λ v e. sized (in-box j m box v e)) ps (both-right (inBox j m) (wholeBy (solvesParts j) m ps) i)
+  where
+    size : (z : ℤ) → z ≼ pos m → negℤ z ≼ pos m → natAbs z ≤ m
+    size (pos n) h k = ≤→ℕ (pos n) (pos m) h
+    size (negsuc n) h k = ≤→ℕ (pos (suc n)) (pos m) k
+
+    sized : {v : Point} → Boxed j m v → Within m v
+    sized {v} w = record { a = size (v .a) (w .a-to) (w .a-from); b = size (v .b) (w .b-to) (w .b-from); c = size (v .c) (w .c-to) (w .c-from); d = size (v .d) (w .d-to) (w .d-from) }
+
+pub whole-entry : (k : ℕ) (v : Point) (ps : List Point) → T (wholeEntry k v ps) → flat numbersOf (entries k v) ≡ numbers ps
+unfolding entries
+whole-entry k v ps i =
+    let ok = leb→le k topScale (both-left (leb k topScale) (wholeBy (completes k v) (half k) ps) i) in
+    whole-by (completes k v) (completes k v) (λ w. refl) (entry-fits k ok v) (half k) (solution-within k v) ps (both-right (leb k topScale) (wholeBy (completes k v) (half k) ps) i)

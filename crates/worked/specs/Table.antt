@@ -1,4 +1,4 @@
--- The starred points of document 01, "Points worked by hand": one table, one test that computes over its rows, and one law that turns the test into
+-- The starred points of document 01, "Points worked by hand", and the counts of document 02: one table, one test that computes over its rows, and one law that turns the test into
 -- each row's claim. A claim is in the terms of the definitions that the contracts cite.
 use mathlib.Core.Path.{_≡_, refl, _∙_, ap}
 use mathlib.Core.Bool.{Bool, true, false}
@@ -21,6 +21,8 @@ use Rattle.ranks.specs.Digits.{pair}
 use Rattle.ranks.specs.Rank.{rank}
 use Rattle.cuts.specs.Digits.{span}
 use Rattle.walk.specs.Walk.{numbersOf, full as solutions}
+use Rattle.equation.specs.Equation.{squares, cross, completes}
+use Rattle.entry.specs.Entry.{full as entries}
 use Rattle.line.specs.Line.{pairOf, inRange, full}
 use Rattle.line.specs.Worked as example
 use Rattle.operator.specs.declared.Operator.{Operator}
@@ -29,7 +31,7 @@ use Rattle.operator.specs.Operator.{identity, refusal, checkOf, evenParity, spe
 use Rattle.operator.specs.Inverse.{adjugate, times, inverseOf}
 use Rattle.session.specs.World.{isImage}
 use Rattle.worked.specs.Bounded.{both, both-left, both-right}
-use Rattle.worked.specs.Listed.{same, same-is, samePoint, same-point, numbers, wholeList, whole-list}
+use Rattle.worked.specs.Listed.{same, same-is, samePoint, same-point, numbers, wholeList, whole-list, wholeEntry, whole-entry}
 use Rattle.worked.specs.Twins.{exponentBy, exponent-by, isImageBy, image-by}
 
 pub data Row : Type 0 where
@@ -43,6 +45,8 @@ pub data Row : Type 0 where
   line : ℤ → List ℤ → Row
   -- the solutions of a job, in order; all lie within ±m
   job : Job → (m : ℕ) → List Point → Row
+  -- the points w that solve the equation of Ticket 2 with v at scale k, in order
+  entry : ℕ → Point → List Point → Row
   -- the exponent of v/√2^k
   exponent : ℕ → Point → ℕ → Row
   -- the image question for a job, the remembered operator and a point
@@ -55,6 +59,7 @@ Claim (operator g n) = refusal (checkOf g) ≡ n
 Claim (image g v w) = imageOf g v ≡ w
 Claim (line h l) = flat pairOf (full (example.upTo h) example.unit) ≡ l
 Claim (job j m ps) = flat numbersOf (solutions j) ≡ numbers ps
+Claim (entry k v ps) = flat numbersOf (entries k v) ≡ numbers ps
 Claim (exponent k v e) = exponentOf k v ≡ e
 Claim (asked j g w b) = isImage j g w ≡ b
 
@@ -76,6 +81,7 @@ right (operator g n) = eqb (refusal (checkOf g)) n
 right (image g v w) = samePoint (imageOf g v) w
 right (line h l) = both (example.boxed h) (sameList (example.listing h) l)
 right (job j m ps) = wholeList j m ps
+right (entry k v ps) = wholeEntry k v ps
 right (exponent k v e) = eqb (exponentBy k v) e
 right (asked j g w b) = sameBool (isImageBy j g w) b
 
@@ -107,6 +113,7 @@ claim (image g v w) t = same-point (imageOf g v) w t
 claim (line h l) t =
     example.worked h (is-true (example.boxed h) (both-left (example.boxed h) (sameList (example.listing h) l) t)) ∙ same-list (example.listing h) l (both-right (example.boxed h) (sameList (example.listing h) l) t)
 claim (job j m ps) t = whole-list j m ps t
+claim (entry k v ps) t = whole-entry k v ps t
 claim (exponent k v e) t = exponent-by k v ∙ eqb→eq (exponentBy k v) e t
 claim (asked j g w b) t = image-by j g w ∙ same-bool (isImageBy j g w) b t
 
@@ -137,6 +144,14 @@ unitDisks =
     let disk = R.Ellipse (record { n = 1; cx = pos 0; cy = pos 0; p = 1; q = pos 0; r = 1; s = 1 }) in
     record { k = 0; a = disk; b = disk }
 
+-- the eight points ±1, ±ω, ±ω², ±ω³
+abbrev units : List Point
+units =
+    let o = pos 0 in
+    let i = pos 1 in
+    let m = negsuc 0 in
+    point m o o o ∷ point o m o o ∷ point o o m o ∷ point o o o m ∷ point o o o i ∷ point o o i o ∷ point o i o o ∷ point i o o o ∷ []
+
 abbrev pub table : List Row
 table =
     sign (negsuc 6) (pos 5) (pos 1)
@@ -157,10 +172,12 @@ table =
     ∷ job (rectangles 1 1 (pos 1) (pos 2) (negsuc 1) (negsuc 0)) 2 (point (pos 0) (pos 0) (pos 0) (pos 2) ∷ [])
     ∷ exponent 1 (point (pos 0) (pos 0) (pos 0) (pos 2)) 0
     ∷ job (rectangles 1 1 (pos 1) (pos 2) (pos 1) (pos 2)) 2 (point (negsuc 1) (pos 0) (pos 2) (pos 0) ∷ point (negsuc 0) (pos 0) (pos 1) (pos 0) ∷ [])
+    ∷ entry 0 (point (pos 0) (pos 0) (pos 0) (pos 0)) units
+    ∷ entry 1 (point (pos 0) (pos 0) (pos 0) (pos 1)) units
     ∷ asked unitDisks (eight (pos 0) (pos 0) (pos 0) (pos 1) (negsuc 0) (pos 1) (pos 1) (pos 0)) (point (negsuc 0) (pos 1) (pos 1) (pos 0)) true
     ∷ asked unitDisks identity (point (negsuc 0) (pos 1) (pos 1) (pos 0)) false
     ∷ []
 
 pub worked : All table
-unfolding checkOf op.inRange evenParity special detWhole detRoot imageOf inverseOf adjugate times example.boxed example.listing inRange pair rank span accepted regionCheck inRangeR inRangeE reachOf sgn
+unfolding checkOf op.inRange evenParity special detWhole detRoot imageOf inverseOf adjugate times example.boxed example.listing inRange pair rank span accepted regionCheck inRangeR inRangeE reachOf sgn completes squares cross
 worked = all table tt
