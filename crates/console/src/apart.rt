@@ -1,5 +1,6 @@
 // Entries apart from the session.
 use crate::args;
+use crate::args::Byte;
 use crate::args::Eight;
 use crate::args::Ends;
 use crate::args::Four;
@@ -216,19 +217,13 @@ fn exponent(n: Numbers) -> Line {
     let Four::Point(v) = args::point(n.values[1], n.values[2], n.values[3], n.values[4]) else {
         return Line::Bad;
     };
-    exponent_at(n.values[0], v)
+    let Byte::Fits(k) = args::byte(n.values[0]) else {
+        return Line::Bad;
+    };
+    exponent_at(k, v)
 }
 
-// A scale is a byte.
-fn exponent_at(k: i64, v: Point) -> Line {
-    if !integers::is_nonneg(k) {
-        return Line::Bad;
-    }
-    let k = integers::abs(k);
-    if 255 < k {
-        return Line::Bad;
-    }
-    let k = k as u8;
+fn exponent_at(k: u8, v: Point) -> Line {
     if !ranges::scale(k) {
         return Line::Refused(Refusal::OutOfRange);
     }

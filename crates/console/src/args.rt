@@ -26,6 +26,23 @@ pub fn point(a: i64, b: i64, c: i64, d: i64) -> Four {
     Four::Point(Point { a, b, c, d })
 }
 
+// A number of 8 bits, without a sign.
+pub enum Byte {
+    Fits(u8),
+    TooWide,
+}
+
+pub fn byte(k: i64) -> Byte {
+    if !integers::is_nonneg(k) {
+        return Byte::TooWide;
+    }
+    let k = integers::abs(k);
+    if 255 < k {
+        return Byte::TooWide;
+    }
+    Byte::Fits(k as u8)
+}
+
 // Three numbers of 32 bits.
 pub enum Ends {
     Interval(Interval),

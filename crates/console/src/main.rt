@@ -1,8 +1,10 @@
 // Every public entry, tried by hand or by a script: one line for each line of standard input. Empty lines and those that begin with # are skipped.
 mod apart;
 mod args;
+mod other;
 mod put;
 mod steps;
+mod word;
 
 ghost use mathlib.Core.Path.{_≡_};
 ghost use Prim.Native.Nat.{_≤_};
@@ -49,11 +51,29 @@ fn answer(s: Session, line: &[u8]) -> Session {
     if line[0] == b'#' {
         return s;
     }
+    let first = scan::spaces_from(line, 0);
+    let end = scan::word_end(line, first);
+    let c = wording::command_of(&line[first..end]);
+    if c == wording::WORD {
+        print_words(line, end);
+        return s;
+    }
+    answer_to(s, c, line, end)
+}
+
+// Every command but `word`, whose answer is letters.
+fn answer_to(s: Session, c: usize, line: &[u8], end: usize) -> Session {
     let mut numbers = steps::number_buffer();
-    let r = reply(s, line, &mut numbers);
+    let r = reply(s, c, line, end, &mut numbers);
     let l = r.line;
     print(l, &numbers);
     r.session
+}
+
+fn print_words(line: &[u8], end: usize) {
+    let mut out = io::large_buffer();
+    let n = word::put(&mut out, wording::numbers_from(line, end));
+    write(&out, n);
 }
 
 fn print(l: Line, numbers: &[i32]) {
@@ -68,11 +88,8 @@ fn write(out: &[u8], n: usize) {
     }
 }
 
-// The answer to a line, by its first word.
-fn reply(s: Session, line: &[u8], numbers: &mut [i32]) -> Reply {
-    let first = scan::spaces_from(line, 0);
-    let end = scan::word_end(line, first);
-    let c = wording::command_of(&line[first..end]);
+// The answer to a command; its arguments begin at `end`.
+fn reply(s: Session, c: usize, line: &[u8], end: usize, numbers: &mut [i32]) -> Reply {
     if c == wording::READ {
         return steps::read(s, line, end);
     }
@@ -96,6 +113,7 @@ fn answered(s: Session, c: usize, n: Numbers, numbers: &mut [i32]) -> Reply {
         wording::PROPOSE => steps::alone(s, c, n),
         wording::IMAGE => steps::same(s, steps::image(s, n)),
         wording::LINE => steps::same(s, apart::line(n, numbers)),
+        wording::ENTRY => steps::same(s, other::entry(n, numbers)),
         _ => steps::same(s, apart::numbered(c, n)),
     }
 }

@@ -54,6 +54,8 @@ pub const OMEGA: usize = 20;
 pub const DELTA: usize = 21;
 
 pub const IDENTITY: usize = 22;
+pub const ENTRY: usize = 23;
+pub const WORD: usize = 24;
 
 // The numbers after the first word, at most 16, where the words are good.
 pub struct Numbers {
@@ -82,7 +84,7 @@ pub fn command_of(word: &[u8]) -> usize
         word,
         b"read hand rewind clear plain image propose \
           sign line operator apply inverse matrix product determinant exponent \
-          real imaginary divide lambda omega delta identity",
+          real imaginary divide lambda omega delta identity entry word",
     )
 }
 
