@@ -2,14 +2,14 @@
 use mathlib.Core.Path.{_≡_, sym, _∙_, ap}
 use mathlib.Core.Bool.{true, false}
 use mathlib.Core.List.{List}
-use Prim.Native.Nat.{ℕ, _-_, _*_, _≤_, _<_, min}
+use Prim.Native.Nat.{ℕ, _≤_, _<_, min}
 use native.Mathlib.Omega.{arith}
 use native.Mathlib.Decide.{decLt}
 use native.Mathlib.Nat.{min-eq-left, min-eq-right}
 use lib.ListN.{length}
 use borrow.Author.Tests.{lt-ltb, le-ltb, ltb-false}
 use Rattle.ring.specs.declared.Point.{Point}
-use Rattle.ring.specs.Point.Exponent.{exponentOf}
+use Rattle.ring.specs.Point.Exponent.{exponentOf, pulseCount, pulse-is}
 use Rattle.equation.specs.Equation.{completes}
 use Rattle.spelling.specs.Bits.{pick}
 use Rattle.spelling.specs.Points.{turn}
@@ -49,8 +49,8 @@ module _ (k : ℕ) (u t : Point) (e : completes k u t ≡ true) where
   TUT-only w n s = only-word k u (turn t) (equation-turn k u t (solves k u t e)) w n s
 
   -- "its T number is the m of Ticket 3": 2e − 2, and 0 where e = 0
-  pub handed-Ts : Ts (named (wordU k u t) (wordTUT k u t) (handed k u t)) ≡ 2 * exponentOf k u - 2
-  handed-Ts = fewer (decLt (Ts (wordTUT k u t)) (Ts (wordU k u t))) ∙ least-Ts k u t (solves k u t e)
+  pub handed-Ts : Ts (named (wordU k u t) (wordTUT k u t) (handed k u t)) ≡ pulseCount (exponentOf k u)
+  handed-Ts = fewer (decLt (Ts (wordTUT k u t)) (Ts (wordU k u t))) ∙ least-Ts k u t (solves k u t e) ∙ sym (pulse-is (exponentOf k u))
     where
       fewer : Dec (Ts (wordTUT k u t) < Ts (wordU k u t)) → Ts (named (wordU k u t) (wordTUT k u t) (handed k u t)) ≡ min (Ts (wordU k u t)) (Ts (wordTUT k u t))
       fewer (yes l) = ap (λ b. Ts (named (wordU k u t) (wordTUT k u t) (pick b (Second (length (wordTUT k u t))) (First (length (wordU k u t)))))) (lt-ltb (Ts (wordTUT k u t)) (Ts (wordU k u t)) l) ∙ sym (min-eq-right {n = Ts (wordTUT k u t)} {m = Ts (wordU k u t)} (omega arith))
