@@ -8,7 +8,8 @@ pub fn compare(s: &[u8]) -> Tally {
     let mut at = 0;
     while at < s.len() {
         let row = row::row_at(s, at);
-        t = t.with(right(row.count, row.numbers));
+        let numbers = row.numbers;
+        t = t.with(right(row.count, numbers));
         at = row::after(s, at, row.next);
     }
     t
