@@ -45,6 +45,9 @@ pub and-split : (a b : Bool) → a && b ≡ true → (a ≡ true) × (b ≡ true
 and-split true b e = (refl, e)
 and-split false b e = let z : _≡_ {A = ℕ} 0 1 = cc in absurd (omega arith)
 
+pub and-first : (a b : Bool) → a && b ≡ true → a ≡ true
+and-first a b e = and-split a b e .0
+
 and-is : (a b : Bool) → a && b ≡ both a b
 and-is true b = refl
 and-is false b = refl
