@@ -12,7 +12,7 @@ use Rattle.region.specs.Bound.{solutions-small}
 use Rattle.ranks.specs.Rest.{rest, rest-induct, rest-miss}
 use Rattle.ranks.specs.Rank.{rank, top}
 use Rattle.ranks.specs.Digits.{pair}
-use Rattle.cuts.specs.Digits.{span}
+use Rattle.points.specs.Digits.{span}
 use Rattle.walk.specs.Walk.{pointOf, solvesAt, full}
 
 -- no more than the ranks from p on
