@@ -201,8 +201,8 @@ whole-list j m ps i =
     whole-by (solves j) (solvesParts j) (solves-is j) (solution-fits j) m (λ v e. sized (in-box j m box v e)) ps (both-right (inBox j m) (wholeBy (solvesParts j) m ps) i)
   where
     size : (z : ℤ) → z ≼ pos m → negℤ z ≼ pos m → natAbs z ≤ m
-    size (pos n) h k = ≤→ℕ (pos n) (pos m) h
-    size (negsuc n) h k = ≤→ℕ (pos (suc n)) (pos m) k
+    size (pos n) h k = omega (arith, ≤→ℕ (pos n) (pos m) h)
+    size (negsuc n) h k = omega (arith, ≤→ℕ (pos (suc n)) (pos m) k)
 
     sized : {v : Point} → Boxed j m v → Within m v
     sized {v} w = record { a = size (v .a) (w .a-to) (w .a-from); b = size (v .b) (w .b-to) (w .b-from); c = size (v .c) (w .c-to) (w .c-from); d = size (v .d) (w .d-to) (w .d-from) }

@@ -19,7 +19,7 @@ use Rattle.region.specs.Cut.{sgn}
 use Rattle.ranks.specs.Handed.{flat}
 use Rattle.ranks.specs.Digits.{pair}
 use Rattle.ranks.specs.Rank.{rank}
-use Rattle.cuts.specs.Digits.{span}
+use Rattle.points.specs.Digits.{span}
 use Rattle.walk.specs.Walk.{numbersOf, full as solutions}
 use Rattle.equation.specs.Equation.{squares, cross, completes}
 use Rattle.entry.specs.Entry.{full as entries}
