@@ -217,7 +217,7 @@ fn exponent(n: Numbers) -> Line {
     let Four::Point(v) = args::point(n.values[1], n.values[2], n.values[3], n.values[4]) else {
         return Line::Bad;
     };
-    let Byte::Fits(k) = args::byte(n.values[0]) else {
+    let Byte::Fits(k) = args::byte_of(n.values[0]) else {
         return Line::Bad;
     };
     exponent_at(k, v)

@@ -32,7 +32,7 @@ pub enum Byte {
     TooWide,
 }
 
-pub fn byte(k: i64) -> Byte {
+pub fn byte_of(k: i64) -> Byte {
     if !integers::is_nonneg(k) {
         return Byte::TooWide;
     }

@@ -51,14 +51,25 @@ fn answer(s: Session, line: &[u8]) -> Session {
     if line[0] == b'#' {
         return s;
     }
-    let first = scan::spaces_from(line, 0);
-    let end = scan::word_end(line, first);
-    let c = wording::command_of(&line[first..end]);
-    if c == wording::WORD {
-        print_words(line, end);
+    let c = command_at(line);
+    if c.name == wording::WORD {
+        print_words(line, c.end);
         return s;
     }
-    answer_to(s, c, line, end)
+    answer_to(s, c.name, line, c.end)
+}
+
+// What the first word of a line names, and where the word ends.
+struct Command {
+    name: usize,
+    end: usize,
+}
+
+fn command_at(line: &[u8]) -> Command {
+    let first = scan::spaces_from(line, 0);
+    let end = scan::word_end(line, first);
+    let name = wording::command_of(&line[first..end]);
+    Command { name, end }
 }
 
 // Every command but `word`, whose answer is letters.

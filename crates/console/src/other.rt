@@ -27,7 +27,7 @@ pub fn entry(n: Numbers, space: &mut [i32]) -> Line {
 }
 
 fn entry_from(n: Numbers, place: Place, space: &mut [i32]) -> Line {
-    let Byte::Fits(k) = args::byte(n.values[0]) else {
+    let Byte::Fits(k) = args::byte_of(n.values[0]) else {
         return Line::Bad;
     };
     let Four::Point(v) = args::point(n.values[1], n.values[2], n.values[3], n.values[4]) else {

@@ -24,7 +24,7 @@ fn bad(out: &mut [u8]) -> usize {
 }
 
 fn put_words(out: &mut [u8], n: Numbers) -> usize {
-    let Byte::Fits(k) = args::byte(n.values[0]) else {
+    let Byte::Fits(k) = args::byte_of(n.values[0]) else {
         return bad(out);
     };
     let Four::Point(u) = args::point(n.values[1], n.values[2], n.values[3], n.values[4]) else {
