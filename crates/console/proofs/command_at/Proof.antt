@@ -23,14 +23,14 @@ spaces-from-requires c κs = search needs
 word-end-requires : tie.Need-word-end-requires
 word-end-requires c κs = search needs
 
-sub-name : tie.Need-sub-name
-sub-name c = within c .0
+sub-command-of : tie.Need-sub-command-of
+sub-command-of c = within c .0
 
-part-name-start : tie.Need-part-name-start
-part-name-start c = within c .0
+part-command-of-start : tie.Need-part-command-of-start
+part-command-of-start c = within c .0
 
-part-name-end : tie.Need-part-name-end
-part-name-end c = within c .1
+part-command-of-end : tie.Need-part-command-of-end
+part-command-of-end c = within c .1
 
 command-of-requires : tie.Need-command-of-requires
 command-of-requires c κs = search needs
@@ -39,4 +39,4 @@ returns : tie.Need-returns
 returns c = search needs
 
 pub command-at-spec : {M : Type 1} → statement M
-command-at-spec = tie.close (tie.spec spaces-from-requires word-end-requires sub-name part-name-start part-name-end command-of-requires returns)
+command-at-spec = tie.close (tie.spec spaces-from-requires word-end-requires sub-command-of part-command-of-start part-command-of-end command-of-requires returns)
