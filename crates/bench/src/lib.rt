@@ -1,4 +1,4 @@
-// The bench keeps one session, and each call moves that session on: document 01, "The walk". Each call is lent the session, calls the one of `session`
+// The bench keeps one session, and each call moves that session on: SPEC, "Calls". Each call is lent the session, calls the one of `session`
 // that takes it by value, and has the same contract.
 ghost use mathlib.Core.List.{[]};
 ghost use Rattle.calls.specs.Session.{reading, rewind as rewinding, clear as clearing, plain, imageOf};

@@ -87,7 +87,7 @@ module _ (W : World) where
   all-agree [] f = refl
   all-agree (c ∷ cs) f = let a = agrees c f in ap₂ _∷_ (a .same) (all-agree cs (a .next))
 
-  -- "Which of its calls are refused, and each hand-out's count, end and points, must be what these rules give from the calls' arguments alone"
+  -- refusals, and each hand-out's count, end and points, are those of the rules, from the calls' arguments alone
   pub whole-list : (cs : List (Call W)) → map (verdict W) (answers W (fresh W) cs) ≡ verdicts W (begin W) cs
   whole-list cs = all-agree cs (soon none)
 
@@ -104,6 +104,6 @@ module _ (W : World) where
   same-job (soon p) = refl
   same-job (along j w o n h e) = refl
 
-  -- "An accepted record other than an operator joins the job"
+  -- Reading: an accepted scale or region joins the job
   pub whole-job : (cs : List (Call W)) → tallied W (begin W) cs .job ≡ jobOf (after W (fresh W) cs)
   whole-job cs = same-job (all-follow cs (soon none))

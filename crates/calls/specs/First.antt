@@ -1,4 +1,4 @@
--- Demand 3: "the points handed out since the last rewind or clearing are the first ones of the job's full list in rising order, each once".
+-- Demand 3: what was handed out since the last rewind or clearing is the beginning of the full list, in rising order, each point once.
 -- Assumes nothing.
 use mathlib.Core.Path.{_≡_, refl, sym, ap, _∙_}
 use mathlib.Core.Bool.{Bool, true, false, cond}
@@ -97,11 +97,11 @@ module _ (W : World) where
   first-ones (soon p) = refl
   first-ones (along j w o k e) = refl
 
-  -- "the points handed out since the last rewind or clearing are the first ones of the job's full list"
+  -- what was handed out since the last rewind or clearing is the beginning of the full list
   pub handed-first : (cs : List (Call W)) → points W (since W cs) ≡ flat coords (take (spaces W (since W cs)) (fullOf W (after W (fresh W) cs)))
   handed-first cs = first-ones (holds-since cs)
 
-  -- "as many as the hand-outs since then had space for, or all of them if they are fewer"
+  -- as many as there was space for, or all if they are fewer
   pub handed-count : (cs : List (Call W)) → length (points W (since W cs)) ≡ 4 * min (spaces W (since W cs)) (length (fullOf W (after W (fresh W) cs)))
   handed-count cs =
       let k = spaces W (since W cs) in
@@ -112,7 +112,7 @@ module _ (W : World) where
   full-rising (early p) = tt
   full-rising (walking j w o) = rest-rising (test j) top 0
 
-  -- "in rising order, each once"
+  -- in rising order, each once
   pub handed-rising : (cs : List (Call W)) → Rising 0 (take (spaces W (since W cs)) (fullOf W (after W (fresh W) cs)))
   handed-rising cs = rising-take (spaces W (since W cs)) 0 (fullOf W (after W (fresh W) cs)) (full-rising (after W (fresh W) cs))
 
@@ -140,7 +140,7 @@ module _ (W : World) where
   since-more [] c s seen = refl
   since-more (d ∷ cs) c s seen = since-more cs c ((step W d s) .1) _
 
-  -- "Each hand-out that isn't refused reports the end exactly when none is left after it."
+  -- a hand-out that is not refused reports the end exactly when none is left after it
   pub end-reported : (cs : List (Call W)) (l : List ℤ) → Reports ((step W (handOut l) (after W (fresh W) cs)) .0) (leftAfter W (cs ++ (handOut l ∷ [])))
   end-reported cs l =
       rw (after-more cs (handOut l) (fresh W), since-more cs (handOut l) (fresh W) [], spaces-more (since W cs) (handOut l, (step W (handOut l) (after W (fresh W) cs)) .0))

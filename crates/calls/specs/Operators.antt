@@ -1,4 +1,4 @@
--- Demand 3: "Two lists that are alike once their operator readings are struck out get the same answers and the same points from their hand-outs."
+-- Demand 3: two lists that are alike without their operator readings get the same answers and points from their hand-outs
 -- Assumes nothing.
 use mathlib.Core.Path.{_≡_, refl, sym, ap, ap₂, _∙_}
 use mathlib.Core.Bool.{Bool, true, false, cond, not, false≢true}
@@ -10,7 +10,7 @@ use Rattle.calls.specs.Session.{Call, reading, handOut, rewind, clear, p
 module _ (W : World) where
   open World W using (Parts, Job, Operator, readPart, readOperator, turn-part)
 
-  -- a reading "whose bytes begin with kind 04, accepted or refused"
+  -- a reading that begins with kind 04, accepted or refused
   abbrev pub readsOperator : Call W → Bool
   readsOperator (reading b) = isOperator b
   readsOperator (handOut l) = false
@@ -93,7 +93,7 @@ module _ (W : World) where
   step-operator plain h d = absurd (false≢true h)
   step-operator (imageOf v) h d = absurd (false≢true h)
 
-  -- "an accepted operator changes nothing here": an operator reading, accepted or refused, changes at most the remembered operator
+  -- an accepted operator changes nothing here: an operator reading, accepted or refused, changes at most the remembered operator
   pub operator-only : (c : Call W) → readsOperator c ≡ true → (s : Session W) → SameButOperator ((step W c s) .1) s
   operator-only c h s = step-operator c h (same s)
 
@@ -129,7 +129,7 @@ module _ (W : World) where
       picked-struck [] s t d = refl
       picked-struck (c ∷ cs) s t d = strike c cs d (picked-struck cs) (readsOperator c) (picks c) refl refl
 
-      -- "Two lists that are alike once their operator readings are struck out get the same answers", from any choice of independent calls
+      -- two lists that are alike without their operator readings get the same answers, from any choice of independent calls
       pub picked-alike : (cs ds : List (Call W)) → struck cs ≡ struck ds → picked (fresh W) cs ≡ picked (fresh W) ds
       picked-alike cs ds e = picked-struck cs (fresh W) (fresh W) (same (fresh W)) ∙ ap (picked (fresh W)) e ∙ sym (picked-struck ds (fresh W) (fresh W) (same (fresh W)))
 
@@ -141,7 +141,7 @@ module _ (W : World) where
   hand-out-independent plain h = refl
   hand-out-independent (imageOf v) h = absurd (false≢true h)
 
-  -- "Two lists that are alike once their operator readings are struck out get the same answers and the same points from their hand-outs."
+  -- two lists that are alike without their operator readings get the same answers and points from their hand-outs
   pub alike-hand-outs : (cs ds : List (Call W)) → struck cs ≡ struck ds → picked isHandOut (fresh W) cs ≡ picked isHandOut (fresh W) ds
   alike-hand-outs = picked-alike isHandOut hand-out-independent
 

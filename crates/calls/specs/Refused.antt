@@ -1,4 +1,4 @@
--- Demand 3: "A refused call counts as not made."
+-- Demand 3: a refused call is as if it had not been made.
 -- Assumes nothing.
 use mathlib.Core.Path.{_≡_, refl, ap}
 use mathlib.Core.Bool.{Bool, true, false, cond}
@@ -30,7 +30,7 @@ module _ (W : World) where
   remembered-same j w o (refuse r) h = refl
   remembered-same j w o (accept n o′) h = cc
 
-  -- "A refusal [..] leaves the session and all of the lent list untouched.": the session
+  -- a refusal leaves the session and the lent slice as they were: the session
   pub refused-same : (c : Call W) (s : Session W) → isRefused W ((step W c s) .0) ≡ true → (step W c s) .1 ≡ s
   refused-same clear s h = cc
   refused-same (reading b) (early p) h = joined-same p (readPart b p) h
@@ -68,7 +68,7 @@ module _ (W : World) where
         same-session = rw e (n .same-session);
       }
 
-  -- "A list with its refused calls struck out, the others' arguments unchanged, gives the other calls the same answers and leaves the same session."
+  -- with the refused calls struck out, the others get the same answers and leave the same session
   pub not-made : (cs : List (Call W)) (s : Session W) → NotMade s cs
   not-made [] s = record { same-answers = refl; same-session = refl }
   not-made (c ∷ cs) s = strike c s cs (isRefused W ((step W c s) .0)) refl (not-made cs ((step W c s) .1))

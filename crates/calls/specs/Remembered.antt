@@ -1,4 +1,4 @@
--- What a session remembers: document 01, "Operators" and "The walk".
+-- What a session remembers: SPEC, "Operators" and "Walk".
 -- Assumes nothing.
 use mathlib.Core.Path.{_≡_, refl, sym, ap, _∙_}
 use mathlib.Core.Bool.{Bool, true, false, cond}
@@ -13,12 +13,12 @@ use Rattle.calls.specs.Since.{Exchange, exchanges}
 module _ (W : World) where
   open World W using (Parts, Job, Operator, Point, identity, readPart, readOperator, turn-part, turn-operator)
 
-  -- "the identity if none"
+  -- the identity if none was accepted
   abbrev pub operatorOf : Session W → Operator
   operatorOf (early p) = identity
   operatorOf (walking j w o) = o
 
-  -- "Neither question changes the session."
+  -- no question changes the session
   pub plain-same : (s : Session W) → (step W plain s) .1 ≡ s
   plain-same (early p) = refl
   plain-same (walking j w o) = refl
@@ -27,19 +27,19 @@ module _ (W : World) where
   image-same v (early p) = refl
   image-same v (walking j w o) = refl
 
-  -- "clearing gives a fresh session", "clearing forgets it"
+  -- clearing makes the session fresh, and forgets the operator
   pub clear-fresh : (s : Session W) → (step W clear s) .1 ≡ fresh W
   clear-fresh s = refl
 
   pub clear-forgets : (s : Session W) → operatorOf ((step W clear s) .1) ≡ identity
   clear-forgets s = refl
 
-  -- "rewinding does not"
+  -- a rewind keeps it
   pub rewind-keeps : (s : Session W) → operatorOf ((step W rewind s) .1) ≡ operatorOf s
   rewind-keeps (early p) = refl
   rewind-keeps (walking j w o) = refl
 
-  -- the operator that is remembered after a call and its answer, if it was o before: "the last operator that a caller had accepted"
+  -- the operator that is remembered after a call and its answer, if it was o before: the last one that was accepted
   abbrev accepted : Operator → Reading Operator → Operator
   accepted o (refuse r) = o
   accepted o (accept n o′) = o′
@@ -99,6 +99,6 @@ module _ (W : World) where
   last-by [] s = refl
   last-by (c ∷ cs) s = last-by cs ((step W c s) .1) ∙ ap (λ (o : Operator). lastAccepted o (exchanges W ((step W c s) .1) cs)) (notes c s)
 
-  -- "The session remembers the last operator that a caller had accepted, the identity if none; clearing forgets it, rewinding does not"
+  -- what a session remembers: the last operator that was accepted, the identity if none; clearing forgets it, a rewind does not
   pub last-remembered : (cs : List (Call W)) → operatorOf (after W (fresh W) cs) ≡ lastAccepted identity (exchanges W (fresh W) cs)
   last-remembered cs = last-by cs (fresh W)

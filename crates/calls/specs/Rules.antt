@@ -1,4 +1,4 @@
--- The rules of document 01, "A whole list of calls": which calls are refused, and each hand-out's count, end and slice, from the calls' arguments alone.
+-- The rules of SPEC, "Calls": which calls are refused, and each hand-out's count, end and slice, from the calls' arguments alone.
 -- They know no place and no operator: only the job, the total and the end.
 use mathlib.Core.Bool.{Bool, true, false}
 use mathlib.Core.List.{List, [], _∷_}
@@ -38,50 +38,50 @@ module _ (W : World) where
   abbrev pub Ruling : Type 0
   Ruling = Verdict × Tally
 
-  -- "Start: no job record, total 0, end no."
+  -- Start: no record, total 0, end no
   abbrev pub begin : Tally
   begin = record { job = part none; total = 0; end = false }
 
-  -- "An accepted record other than an operator joins the job"
+  -- Reading: an accepted scale or region joins the job
   abbrev pub join : Tally → Reading (Stage Parts Job) → Ruling
   join t (refuse r) = (refusal r, t)
   join t (accept n j) = (passed, record { job = j; total = t .total; end = t .end })
 
-  -- "an accepted operator changes nothing here"
+  -- an accepted operator changes nothing here
   abbrev pub pass : Tally → Reading Operator → Ruling
   pass t (refuse r) = (refusal r, t)
   pass t (accept n o) = (passed, t)
 
-  -- "What is left is its length less the total."
+  -- what is left: its length less the total
   abbrev pub left : Job → ℕ → ℕ
   left j total = length (full W j) - total
 
-  -- "It writes that many points of the full list, from the one after the first total ones. The total grows by the count. End becomes yes exactly when
-  -- none is left, and is answered so."
+  -- Hand-out: written are that many points of the full list, from the one after the first total ones; the total grows by the count; end is yes exactly when
+  -- none is left then, and is answered so
   abbrev pub deal : Job → ℕ → List ℤ → ℕ → Ruling
   deal j total l count = (
     handing count (isZero (left j (total + count))) (put coords 4 (take count (drop total (full W j))) l),
     record { job = whole j; total = total + count; end = isZero (left j (total + count)) },
   )
 
-  -- "refused 10 while end is yes; then nothing changes. Otherwise its count is the lesser of its space and what is left."
+  -- Hand-out: refused 10 while end is yes, and nothing changes; else the count is the lesser of the space and what is left
   abbrev pub handRule : Job → List ℤ → ℕ → Bool → Ruling
   handRule j l total true = (refusal 10, record { job = whole j; total = total; end = true })
   handRule j l total false = deal j total l (min (space W l) (left j total))
 
   abbrev pub ruleAt : Call W → Stage Parts Job → Tally → Ruling
-  -- "Clearing: as at the start."
+  -- Clearing: as at the start
   ruleAt clear j t = (passed, begin)
-  -- "Reading: refused exactly where a refusal listed for readings holds (here 1 to 8), and then changing nothing. Every other reading is accepted."
+  -- Reading: refused where one of the refusals 1 to 8 holds, and then nothing changes; else accepted
   ruleAt (reading b) (part p) t = join t (readPart b p)
   ruleAt (reading b) (whole j) t = pass t (readOperator b)
-  -- "Hand-out: refused 9 until scale, A and B are there"
+  -- Hand-out: refused 9 until scale, A and B are there
   ruleAt (handOut l) (part p) t = (refusal 9, t)
   ruleAt (handOut l) (whole j) t = handRule j l (t .total) (t .end)
-  -- "Rewind: refused 9 as above, changing nothing; otherwise total 0, end no."
+  -- Rewind: refused 9 until then, and nothing changes; else total 0, end no
   ruleAt rewind (part p) t = (refusal 9, t)
   ruleAt rewind (whole j) t = (passed, record { job = whole j; total = 0; end = false })
-  -- "Either question: refused 9 as above; refused or not, it changes nothing."
+  -- Questions: refused 9 until then; either way nothing changes
   ruleAt plain (part p) t = (refusal 9, t)
   ruleAt plain (whole j) t = (passed, t)
   ruleAt (imageOf v) (part p) t = (refusal 9, t)

@@ -1,4 +1,4 @@
--- A session and the six kinds of calls: document 01, "The walk" and "A whole list of calls". The records' parser, the test of points and the operators
+-- A session and the six kinds of calls: SPEC, "Walk" and "Calls". The records' parser, the test of points and the operators
 -- are parameters.
 use mathlib.Core.Path.{_≡_}
 use mathlib.Core.Bool.{Bool, true, false, not}
@@ -20,7 +20,7 @@ pub data Stage (Parts Job : Type 0) : Type 0 where
   part : Parts → Stage Parts Job
   whole : Job → Stage Parts Job
 
--- "An operator reading is one whose bytes begin with kind 04, accepted or refused"
+-- an operator reading begins with kind 04, accepted or refused
 abbrev pub isOperator : List ℕ → Bool
 isOperator [] = false
 isOperator (k ∷ b) = eqb k 4
@@ -42,7 +42,7 @@ pub record World : Type 1 where
   pub coords : ℕ → List ℤ
   pub image : Job → Operator → Point → Bool
   pub four : (r : ℕ) → length (coords r) ≡ 4
-  -- "The turn is: scale, region A, region B, then any number of operators"
+  -- the turn: scale, region A, region B, then operators
   pub turn-part : (b : List ℕ) (p : Parts) → isOperator b ≡ true → (r : ℕ) × (readPart b p ≡ refuse r)
   pub turn-operator : (b : List ℕ) → isOperator b ≡ false → (r : ℕ) × (readOperator b ≡ refuse r)
 
@@ -73,11 +73,11 @@ module _ (W : World) where
   abbrev pub Outcome : Type 0
   Outcome = Answer × Session
 
-  -- "all solutions of the job in point order"
+  -- all solutions of the job, in point order
   abbrev pub full : Job → List ℕ
   full j = rest (test j) top 0
 
-  -- "its space is the length divided by 4, rounded down"
+  -- the space: a quarter of the length, rounded down
   abbrev pub space : List ℤ → ℕ
   space l = length l / 4
 
@@ -116,7 +116,7 @@ module _ (W : World) where
   step plain (walking j w o) = (says (not (isNil (full j))), walking j w o)
   step (imageOf v) (walking j w o) = (says (image j o v), walking j w o)
 
-  -- "The first call gets a fresh session, each later one the session that the call before it left": the answers, and the session that is left
+  -- the first call finds a fresh session, every other one what the call before it left: the answers, and the session that is left
   abbrev pub answers : Session → List Call → List Answer
   answers s [] = []
   answers s (c ∷ cs) = (step c s) .0 ∷ answers ((step c s) .1) cs

@@ -1,4 +1,4 @@
--- What was handed out since the last rewind or clearing: document 01, "A whole list of calls".
+-- What was handed out since the last rewind or clearing: SPEC, "Calls".
 use mathlib.Core.Bool.{Bool, false, not, cond}
 use mathlib.Core.List.{List, [], _∷_, _++_}
 use Prim.Native.Nat.{ℕ, _+_, _*_}
@@ -24,7 +24,7 @@ module _ (W : World) where
   restarts plain a = false
   restarts (imageOf v) a = false
 
-  -- ""Since the last rewind or clearing" means the last one not refused, or the start of the list": what of seen and then xs has come since then
+  -- since the last rewind or clearing that was not refused, or the start of the list: what of seen and then xs has come since then
   abbrev pub sinceAfter : List Exchange → List Exchange → List Exchange
   sinceAfter seen [] = seen
   sinceAfter seen (x ∷ xs) = sinceAfter (cond (restarts (x .0) (x .1)) [] (seen ++ (x ∷ []))) xs
@@ -32,7 +32,7 @@ module _ (W : World) where
   abbrev pub since : List (Call W) → List Exchange
   since cs = sinceAfter [] (exchanges (fresh W) cs)
 
-  -- "those in the first 4 times count numbers of each slice, read as its hand-out returns, one hand-out after another; a refused one adds none"
+  -- points handed out: the first 4 × count numbers of each slice as its hand-out returns, in the order of the hand-outs; none of a refused one
   abbrev pub written : Answer W → List ℤ
   written (refused r) = []
   written (taken n) = []
@@ -44,7 +44,7 @@ module _ (W : World) where
   points [] = []
   points (x ∷ xs) = written (x .1) ++ points xs
 
-  -- "the sum of the spaces of the hand-outs not refused since then, a whole number without limit"
+  -- the space there was: the spaces of the hand-outs that were not refused, added up
   abbrev pub lentSpace : Call W → Answer W → ℕ
   lentSpace (reading b) a = 0
   lentSpace (handOut l) a = cond (isRefused W a) 0 (space W l)
@@ -57,7 +57,7 @@ module _ (W : World) where
   spaces [] = 0
   spaces (x ∷ xs) = lentSpace (x .0) (x .1) + spaces xs
 
-  -- "With scale, A and B there, the full list is all solutions of the job in point order; until then it is empty."
+  -- the full list: all solutions in point order once scale, A and B are there, and none before
   abbrev pub fullOf : Session W → List ℕ
   fullOf (early p) = []
   fullOf (walking j w o) = full W j

@@ -1,4 +1,4 @@
--- Document 02, Ticket 6: the words of U and of TUT†, each at the front of a lent slice, and the part that is handed back.
+-- SPEC, "Gate words": the words of U and of TUT†, each at the front of a lent slice, and the part that is handed back.
 use mathlib.Core.Path.{_≡_}
 use mathlib.Core.Bool.{Bool, true, false}
 use mathlib.Core.List.{List, [], _++_}

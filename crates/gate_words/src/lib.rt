@@ -1,4 +1,4 @@
-// The words of U and of TUT† in two lent slices: document 02, Ticket 6.
+// The words of U and of TUT† in two lent slices: SPEC, "Gate words".
 ghost use mathlib.Core.Path.{_≡_};
 ghost use mathlib.Core.Bool.{true};
 ghost use Prim.Native.Nat.{_≤_};

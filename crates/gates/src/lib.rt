@@ -1,4 +1,4 @@
-// Gate words: document 02, Ticket 6.
+// Gate words: SPEC, "Gate words".
 mod letters;
 mod parity;
 mod points;

@@ -1,4 +1,4 @@
--- What a whole input comes to: document 01, "The list program". All records are read before a point is printed.
+-- What a whole input comes to: SPEC, "List program". All records are read before a point is printed.
 use mathlib.Core.Path.{_≡_, refl, sym, ap, _∙_}
 use mathlib.Core.Bool.{Bool, true, false, cond}
 use mathlib.Core.List.{List, [], _∷_}
@@ -24,7 +24,7 @@ loadedOf (I.Job s) = ready (meaning s)
 loadedOf (I.Refused f at) = refused (number f) at
 loadedOf I.TooLong = tooLong
 
--- "The program answers 9 at the input's end if they aren't" all there
+-- at the input's end: refused 9 where scale, A and B are not all there
 abbrev pub finished : Model.Session world → ℕ → Loaded
 finished (early p) at = refused 9 at
 finished (walking j w o) at = ready (walking j w o)
@@ -43,7 +43,7 @@ records zero m at bytes = finished m at
 records (suc most) m at [] = finished m at
 records (suc most) m at (b ∷ bytes) = onward (λ n t. records most t (at + n) (drop n (b ∷ bytes))) m at (step world (reading (b ∷ bytes)) m)
 
--- "at most 65,536 bytes; a longer input prints `too long` alone"
+-- at most 65,536 bytes; a longer input is too long
 abbrev pub most : ℕ
 most = 65536
 

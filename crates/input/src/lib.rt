@@ -1,4 +1,4 @@
-// What a whole input comes to: document 01, "The list program".
+// What a whole input comes to: SPEC, "List program".
 ghost use mathlib.Core.Path.{_≡_};
 ghost use lib.ListN.{length};
 ghost use Rattle.session.specs.Session.{meaning, fresh};

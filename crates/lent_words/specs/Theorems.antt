@@ -1,4 +1,4 @@
--- Document 02, Ticket 6: what is true of the words, for all k, u and t that solve the equation of Ticket 2.
+-- SPEC, "Gate words": what is true of the words, for all k, u and t that solve the equation of Ticket 2.
 use mathlib.Core.Path.{_≡_, sym, _∙_, ap}
 use mathlib.Core.Bool.{true, false}
 use mathlib.Core.List.{List}

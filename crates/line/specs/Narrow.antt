@@ -1,5 +1,5 @@
 -- The shifted and scaled problem where the second strip is at most 1 wide and, scaled, at most 2 wide: of two pairs the one with the smaller a has the smaller a',
--- or the same a' and the smaller b'. So the scaled pairs, taken by a' and then b' as in 000, rise in a.
+-- or the same a' and the smaller b'. So the scaled pairs, taken by a' and then b' as in the Note, rise in a.
 use mathlib.Core.Path.{_≡_, refl, sym, _∙_, ap, ap₂, subst}
 use mathlib.Core.Bool.{Bool, true, false}
 use mathlib.Core.Logic.{_⊎_, inl, inr}

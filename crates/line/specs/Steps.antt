@@ -1,4 +1,4 @@
--- The two steps that Algorithm 2.2 of 000 takes before it counts a and b: the shift by α₀ (Lemma 2.3) and the scaling by λ^n (Lemma 2.4), over strips with ends
+-- The two steps that Algorithm 2.2 of the Note takes before it counts a and b: the shift by α₀ (Lemma 2.3) and the scaling by λ^n (Lemma 2.4), over strips with ends
 -- in Z[√2]. Each is an equation of two tests, so that no pair is lost and none is added, whatever the strips are: of one point, empty, or the wrong way round.
 use mathlib.Core.Path.{_≡_, refl, sym, _∙_, ap, ap₂, subst}
 use mathlib.Core.Bool.{Bool, true, false, false≢true}

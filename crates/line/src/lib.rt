@@ -1,4 +1,4 @@
-// The line problem: document 01, "The walk", last paragraphs.
+// The line problem: SPEC, "Line problem".
 ghost use mathlib.Core.Path.{_≡_};
 ghost use mathlib.Core.Bool.{true};
 ghost use Prim.Native.Nat.{_+_, _<_, _≤_};

@@ -1,5 +1,5 @@
-// The next row that has a pair, by the steps of Algorithm 2.2 (000) in its order: shift by α₀, scale by a power of λ, then a, then b. A step's number is the text's;
-// "internal" are the steps of its second list. Pairs come there by a', then b'; document 01 decides the order, a and then b. Where the second interval is at most 1 wide, and
+// The next row that has a pair, by the steps of Algorithm 2.2 (the Note) in its order: shift by α₀, scale by a power of λ, then a, then b. A step's number is the text's;
+// "internal" are the steps of its second list. Pairs come there by a', then b'; SPEC decides the order, a and then b. Where the second interval is at most 1 wide, and
 // at most 2 wide once scaled, the two agree (`rises`), and only there the scaled rows are walked.
 ghost use mathlib.Core.Path.{_≡_};
 ghost use mathlib.Core.Bool.{true};

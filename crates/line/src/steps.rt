@@ -1,4 +1,4 @@
-// The steps of Algorithm 2.2 (000) that come before a and b: the shift by α₀, then the scaling by a power of λ = 1 + √2.
+// The steps of Algorithm 2.2 (the Note) that come before a and b: the shift by α₀, then the scaling by a power of λ = 1 + √2.
 // `shift-holds` and `scale-holds` say that each keeps the pairs, for every α₀ and every power, so what is chosen here is a matter of speed alone.
 ghost use mathlib.Core.Path.{_≡_};
 ghost use Prim.Native.Nat.{_^_, _≤_};

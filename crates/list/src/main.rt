@@ -1,4 +1,4 @@
-// The list program: document 01, "The list program".
+// The list program: SPEC, "List program".
 use libc::STDIN_FILENO;
 use libc::STDOUT_FILENO;
 

@@ -1,4 +1,4 @@
--- The lines that the list program prints: document 01, "The list program".
+-- The lines that the list program prints: SPEC, "List program".
 use mathlib.Core.Path.{_≡_, refl, ap, _∙_}
 use mathlib.Core.Bool.{Bool, true, false, not}
 use mathlib.Core.List.{List, [], _∷_, _++_}
@@ -24,7 +24,7 @@ coordinateText z = signedDecimal z ++ (32 ∷ [])
 unfoldable pub countText : ℕ → ℕ → List ℕ
 countText n mark = decimal n ++ (mark ∷ [])
 
--- "one line `a b c d e m` for each solution"
+-- the line `a b c d e m` of a solution
 unfoldable pub pointLine : ℕ → Point → List ℕ
 pointLine k v =
     coordinateText (v .a) ++ coordinateText (v .b) ++ coordinateText (v .c) ++ coordinateText (v .d) ++ countText (exponentOf k v) 32 ++ countText (pulseCount (exponentOf k v)) 10
@@ -41,11 +41,11 @@ linesOf k (a ∷ b ∷ []) = []
 linesOf k (a ∷ b ∷ c ∷ []) = []
 linesOf k (a ∷ b ∷ c ∷ d ∷ l) = pointLine k (record { a = a; b = b; c = c; d = d }) ++ linesOf k l
 
--- "then `end N` with N their number in decimal"
+-- the line `end N` of their number
 unfoldable pub endLine : ℕ → List ℕ
 endLine n = (101 ∷ 110 ∷ 100 ∷ 32 ∷ []) ++ countText n 10
 
--- "`refused R at P`"
+-- the line `refused R at P`
 unfoldable pub refusalLine : ℕ → ℕ → List ℕ
 refusalLine r p = (114 ∷ 101 ∷ 102 ∷ 117 ∷ 115 ∷ 101 ∷ 100 ∷ 32 ∷ []) ++ decimal r ++ (32 ∷ 97 ∷ 116 ∷ 32 ∷ []) ++ countText p 10
 

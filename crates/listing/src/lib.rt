@@ -1,4 +1,4 @@
-// What the list program prints: document 01, "The list program".
+// What the list program prints: SPEC, "List program".
 mod page;
 
 pub use page::Page;

@@ -1,4 +1,4 @@
--- The determinant of an operator's matrix is the test's: 000, after Lemma 3.8.
+-- The determinant of an operator's matrix is the test's: the Note, after Lemma 3.8.
 use mathlib.Core.Path.{_≡_, refl, _∙_, ap, ap₂}
 use mathlib.Core.List.{List, [], _∷_}
 use lib.IntN.{ℤ, negℤ, _+ℤ_, _-ℤ_, _*ℤ_}

@@ -1,4 +1,4 @@
--- The inverse of a special grid operator, and the composition of two operators: document 01, "Operators"; 000, equations 49 to 51.
+-- The inverse of a special grid operator, and the composition of two operators: SPEC, "Operators"; the Note, equations 49 to 51.
 use mathlib.Core.Path.{_≡_, refl, _∙_, ap}
 use Prim.Native.Nat.{ℕ}
 use lib.IntN.{ℤ, negℤ, _+ℤ_, _-ℤ_, _*ℤ_}
@@ -38,7 +38,7 @@ answer NotSpecial h = Refused NotSpecial
 unfoldable pub inverseOf : Operator → Inverse
 inverseOf g = answer (checkOf g) (times (detWhole g) (adjugate g))
 
--- document 01's number of each case: 0 for an inverse, else the refusal of the operator
+-- the number of each case (SPEC, "Numbers"): 0 for an inverse, else the refusal of the operator
 abbrev pub number : Inverse → ℕ
 number (Undo h) = 0
 number (Refused c) = refusal c

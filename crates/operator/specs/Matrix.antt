@@ -1,4 +1,4 @@
--- An operator as a two-by-two matrix of numbers p + q/√2: document 01, "Operators"; 000, equation 37.
+-- An operator as a two-by-two matrix of numbers p + q/√2: SPEC, "Operators"; the Note, equation 37.
 use mathlib.Core.Path.{_≡_}
 use mathlib.Core.Bool.{Bool, cond}
 use mathlib.Core.List.{List, [], _∷_}

@@ -1,4 +1,4 @@
--- Grid operators: document 01, "Operators"; 000, Lemma 3.8 and equations 45 to 48.
+-- Grid operators: SPEC, "Operators"; the Note, Lemma 3.8 and equations 45 to 48.
 use mathlib.Core.Path.{_≡_, ap}
 use mathlib.Core.Bool.{Bool, true, false}
 use Prim.Native.Nat.{ℕ}
@@ -12,7 +12,7 @@ use Rattle.operator.specs.declared.WidePoint.{WidePoint}
 use Rattle.operator.specs.declared.Check.{Check}
 use Rattle.operator.specs.declared.Check.the-variants.{Special, OutOfRange, OddParity, NotSpecial}
 
--- document 01's number of each case: 0 is accepted
+-- the number of each case (SPEC, "Refusals"): 0 is accepted
 abbrev pub refusal : Check → ℕ
 refusal Special = 0
 refusal OutOfRange = 4
@@ -27,7 +27,7 @@ abbrev pub either : Bool → Bool → Bool
 either true b = true
 either false b = b
 
--- "Job records": eight signed 16-bit numbers from −100 to 100
+-- SPEC, "Records": eight signed 16-bit numbers from −100 to 100
 abbrev pub within : ℤ → ℤ → Bool
 within m z = both (leZ (negℤ m) z) (leZ z m)
 
@@ -61,7 +61,7 @@ abbrev pub pick : Bool → Check → Check → Check
 pick true x y = x
 pick false x y = y
 
--- refusals in document 01's order: 4, then 6 for an odd parity sum, then 7 for an even one that isn't special
+-- refusals in the order of SPEC, "Operators": 4, then 6 for an odd parity sum, then 7 for an even one that isn't special
 unfoldable pub checkOf : Operator → Check
 checkOf g = pick (inRange g) (pick (evenParity g) (pick (special g) Special NotSpecial) OddParity) OutOfRange
 

@@ -107,7 +107,7 @@ inverse-is g h e = go (checkOf g) refl e
     go OddParity c e = let z : _≡_ {A = ℕ} 0 1 = cc in absurd (omega arith)
     go NotSpecial c e = let z : _≡_ {A = ℕ} 0 1 = cc in absurd (omega arith)
 
--- document 01: "undoes the operator on every point"
+-- SPEC, "Operators": it undoes the operator on every point
 pub undoes : (g h : Operator) → inverseOf g ≡ Undo h → (v : Point) → (imageOf h (imageOf g v) ≡ v) × (imageOf g (imageOf h v) ≡ v)
 undoes g h e v =
     let i = inverse-is g h e in
@@ -119,7 +119,7 @@ inverse-even g h e =
     let i = inverse-is g h e in
     subst (λ h. evenParity h ≡ true) (i .1) (adjugate-even (detWhole g) g (accepted g (i .0) .even))
 
--- document 01: "its own eight numbers lie within ±200"
+-- SPEC, "Operators": its numbers lie within ±200
 pub inverse-within : (g h : Operator) → inverseOf g ≡ Undo h → allWithin (pos 200) h ≡ true
 inverse-within g h e =
     let i = inverse-is g h e in

@@ -1,4 +1,4 @@
-// Grid operators: document 01, "Operators". The test, the image of a point, the matrix, the inverse.
+// Grid operators: SPEC, "Operators". The test, the image of a point, the matrix, the inverse.
 ghost use mathlib.Core.Path.{_≡_};
 ghost use Prim.Native.Nat.{_≤_};
 ghost use lib.IntN.{natAbs, pos, _*ℤ_};
@@ -18,7 +18,7 @@ mod sums;
 pub use bounded::determinant;
 pub use bounded::product;
 
-// G(1) as (a, b, c, d) and G(i) as document 01's (a', b', c', d').
+// G(1) as (a, b, c, d) and G(i) as (a', b', c', d') of SPEC, "Operators".
 pub struct Operator {
     pub a: i16,
     pub b: i16,
@@ -30,7 +30,7 @@ pub struct Operator {
     pub di: i16,
 }
 
-// What the test of an operator says; its number is document 01's refusal, 0 where accepted.
+// What the test of an operator says; its number is that of SPEC, "Refusals", 0 where accepted.
 pub enum Check {
     Special,
     OutOfRange,
@@ -121,7 +121,7 @@ impl Operator {
         )
     }
 
-    // Gv, by 000, equations 45 to 48.
+    // Gv, by the Note, equations 45 to 48.
     pub fn image(self, v: Point) -> WidePoint
         ensures { λ r. ⌜ wide r ≡ imageOf self v ⌝ }
     {
@@ -146,7 +146,7 @@ impl Operator {
         }
     }
 
-    // The operator as a matrix: 000, Lemma 3.8.
+    // The operator as a matrix: the Note, Lemma 3.8.
     pub fn matrix(self) -> [[Entry; 2]; 2]
         ensures { λ r. ⌜ r ≡ matrixOf self ⌝ }
     {
@@ -176,7 +176,7 @@ impl Operator {
         matrix::determinant(self.matrix())
     }
 
-    // The inverse, for determinant 1 and −1: 000, equations 49 to 51.
+    // The inverse, for determinant 1 and −1: the Note, equations 49 to 51.
     pub fn inverse(self) -> Inverse
         ensures { λ r. ⌜ Inverts self r ⌝ }
     {

@@ -1,4 +1,4 @@
-// A coordinate of Gv: 000, equations 45 to 48.
+// A coordinate of Gv: the Note, equations 45 to 48.
 ghost use mathlib.Core.Path.{_≡_};
 ghost use lib.IntN.{_+ℤ_, _-ℤ_, _*ℤ_};
 ghost use Rattle.integers.specs.Parity.{half};

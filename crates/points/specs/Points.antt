@@ -1,4 +1,4 @@
--- Every point of four signed 32-bit numbers has one rank below the top one, and every such rank is one's: document 01, "The walk". Point order, by a, then
+-- Every point of four signed 32-bit numbers has one rank below the top one, and every such rank is one's: SPEC, "Walk". Point order, by a, then
 -- b, c, d as signed numbers, is the order of ranks.
 use mathlib.Core.Path.{_≡_, sym, ap, _∙_}
 use mathlib.Core.List.{List, [], _∷_}
@@ -59,7 +59,7 @@ module _ (v : Point) (f : Fits32 v) where
 pub numbers-of : (v : Point) → Fits32 v → numbersOf (rankOf v) ≡ v .a ∷ v .b ∷ v .c ∷ v .d ∷ []
 numbers-of v f = ap (λ (u : Point). u .a ∷ u .b ∷ u .c ∷ u .d ∷ []) (point-rank v f)
 
--- ---- "ordered by a, then b, c, d, as signed numbers"
+-- ---- point order: a first, then b, c, d, as signed numbers
 pub data PointBefore (v w : Point) : Type 0 where
   first : v .a ≺ w .a → PointBefore v w
   second : v .a ≡ w .a → v .b ≺ w .b → PointBefore v w

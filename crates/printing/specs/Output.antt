@@ -1,4 +1,4 @@
--- All that the list program prints for an input: document 01, "The list program".
+-- All that the list program prints for an input: SPEC, "List program".
 use mathlib.Core.List.{List, [], _∷_, _++_}
 use Prim.Native.Nat.{ℕ}
 use lib.ListN.{length}
@@ -10,7 +10,7 @@ use Rattle.input.specs.Load.{Loaded, ready, refused, tooLong, loadOf}
 use Rattle.listing.specs.Lines.{linesOf, endLine, refusalLine}
 use Rattle.listing.specs.Page.{scaleOf}
 
--- "a longer input prints `too long` alone"
+-- a longer input: `too long` alone
 abbrev pub tooLongLine : List ℕ
 tooLongLine = 116 ∷ 111 ∷ 111 ∷ 32 ∷ 108 ∷ 111 ∷ 110 ∷ 103 ∷ 10 ∷ []
 
@@ -18,7 +18,7 @@ tooLongLine = 116 ∷ 111 ∷ 111 ∷ 32 ∷ 108 ∷ 111 ∷ 110 ∷ 103 ∷ 10 
 abbrev pub listLines : ℕ → List ℕ → List ℕ
 listLines k l = linesOf k (flat numbersOf l)
 
--- "one line `a b c d e m` for each solution, then `end N` with N their number", "A refusal prints only `refused R at P`"
+-- a line for each solution, then the line of their number; a refusal has its line alone
 abbrev pub outputFor : Loaded → List ℕ
 outputFor (ready m) = listLines (scaleOf m) (fullOf world m) ++ endLine (length (fullOf world m))
 outputFor (refused r p) = refusalLine r p

@@ -1,4 +1,4 @@
-// What the list program writes for an input: document 01, "The list program"; and the same without the solutions' lines, for timing. The output comes in
+// What the list program writes for an input: SPEC, "List program"; and the same without the solutions' lines, for timing. The output comes in
 // pieces, each filled into a lent slice: joined they are `outputOf` of the input (specs/Joined).
 ghost use mathlib.Core.Path.{_≡_};
 ghost use lib.ListN.{length};

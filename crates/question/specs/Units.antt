@@ -1,4 +1,4 @@
--- Units of Z[√2] whose conjugate is their inverse, the even powers of λ: the scaling of the line problem (000, Lemma 2.4), by the law that `line` states.
+-- Units of Z[√2] whose conjugate is their inverse, the even powers of λ: the scaling of the line problem (the Note, Lemma 2.4), by the law that `line` states.
 use mathlib.Core.Path.{_≡_, refl, sym, _∙_, subst}
 use mathlib.Core.Bool.{true}
 use mathlib.Core.List.{[], _∷_}

@@ -1,4 +1,4 @@
--- A rectangle with its lower end above its upper one holds nothing: document 01, "Membership".
+-- A rectangle with its lower end above its upper one holds nothing: SPEC, "Membership".
 use mathlib.Core.Path.{_≡_, refl, sym, ap, subst, _∙_}
 use mathlib.Core.Bool.{Bool, true, false, not}
 use mathlib.Core.List.{[], _∷_}

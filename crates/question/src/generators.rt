@@ -1,4 +1,4 @@
-// The generators of 000, Algorithm 3.13, and the composition of operators within range.
+// The generators of the Note, Algorithm 3.13, and the composition of operators within range.
 use crate::image::im;
 use crate::image::one;
 use crate::usable;

@@ -1,4 +1,4 @@
-// The plain question: document 01, "The walk", searched in the coordinates of an operator; and the reduction, which proposes an operator.
+// The plain question: SPEC, "Questions", searched in the coordinates of an operator; and the reduction, which proposes an operator.
 ghost use mathlib.Core.Path.{_≡_};
 ghost use mathlib.Core.Bool.{true, not};
 ghost use Rattle.region.specs.Region.{acceptedJob};

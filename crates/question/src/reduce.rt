@@ -1,4 +1,4 @@
-// The reduction: 000, Algorithm 3.13, as steps over its generators, each to the operator whose boxes are least, while they fall.
+// The reduction: the Note, Algorithm 3.13, as steps over its generators, each to the operator whose boxes are least, while they fall.
 ghost use mathlib.Core.Path.{_≡_};
 ghost use mathlib.Core.Bool.{true};
 ghost use Prim.Native.Nat.{_≤_};

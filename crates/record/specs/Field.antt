@@ -1,4 +1,4 @@
--- A field of a record: document 01, "Job records". Little-endian, signed ones in two's complement; the size is a parameter.
+-- A field of a record: SPEC, "Records". Little-endian, signed ones in two's complement; the size is a parameter.
 use mathlib.Core.Path.{_≡_, refl, sym, _∙_, ap}
 use mathlib.Core.Bool.{Bool, true, false}
 use mathlib.Core.List.{List}

@@ -1,4 +1,4 @@
--- One reading: document 01, "Job records" and "Refusals that come from the input". It takes one record from the front of the bytes, or refuses it.
+-- One reading: SPEC, "Records" and "Refusals". It takes one record from the front of the bytes, or refuses it.
 use mathlib.Core.Path.{_≡_, refl, ap}
 use mathlib.Core.Bool.{Bool, true, false}
 use mathlib.Core.List.{List, [], _∷_}
@@ -32,7 +32,7 @@ use Rattle.record.specs.declared.Reading.{Reading}
 use Rattle.record.specs.declared.Reading.the-variants.{Accepted, Refused}
 use Rattle.record.specs.Field.{unsignedAt, signedAt, one}
 
--- document 01's number of each refusal
+-- the number of each refusal (SPEC, "Refusals")
 abbrev pub number : Refusal → ℕ
 number NoKind = 1
 number UnknownKind = 2
@@ -111,7 +111,7 @@ abbrev pub pick : Bool → Reading → Reading → Reading
 pick true x y = x
 pick false x y = y
 
--- 01: scale k, 0 to 12
+-- 01: scale k, 0 to 20
 unfoldable pub scaleOf : List ℕ → Reading
 scaleOf s = pick (leb (unsignedAt 1 s 0) Reg.topScale) (Accepted (Rec.Scale (unsignedAt 1 s 0)) 2) (Refused OutOfRange)
 
@@ -181,7 +181,7 @@ unfoldable pub readingOf : List ℕ → Turn → Reading
 readingOf [] t = Refused NoKind
 readingOf (b ∷ body) t = kindReading (kindOf b) body t
 
--- document 01's values of each case: the refusal's number, 0 where there is none, and the bytes taken. "A refused reading takes 0 bytes"
+-- the values of each case (SPEC, "Refusals"): the refusal's number, 0 where there is none, and the bytes taken. A refused reading takes none
 pub record Values : Type 0 where
   pub refusal : ℕ
   pub taken : ℕ

@@ -1,4 +1,4 @@
-// Job records: document 01, "Job records". One reading takes one record from the front of the bytes given, or refuses it.
+// Job records: SPEC, "Records". One reading takes one record from the front of the bytes given, or refuses it.
 ghost use mathlib.Core.Path.{_≡_};
 ghost use mathlib.Core.Bool.{Bool, true, false};
 ghost use Prim.Native.Nat.{_≤_, _<_};
@@ -37,7 +37,7 @@ pub enum Record {
     Operator(Operator),
 }
 
-// Document 01's refusals; their numbers are `number` of specs/Record.
+// The refusals of SPEC, "Refusals"; their numbers are `number` of specs/Record.
 pub enum Refusal {
     NoKind,
     UnknownKind,

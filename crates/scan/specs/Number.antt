@@ -1,4 +1,4 @@
--- A decimal number at a place of the bytes, of one word or of two. It serves the lines that our programs read, of which document 01 has no section.
+-- A decimal number at a place of the bytes, of one word or of two. It serves the lines of SPEC, "Console".
 -- Assumes nothing.
 use Prim.Native.Nat.{ℕ, _+_, _-_, _*_}
 use mathlib.Core.Bool.{Bool, true, false, cond}

@@ -1,4 +1,4 @@
--- Runs of bytes that pass a test. They serve the lines that our programs read, of which document 01 has no section. Assumes nothing.
+-- Runs of bytes that pass a test. They serve the lines of SPEC, "Console". Assumes nothing.
 use Prim.Native.Nat.{ℕ, _+_, _≤_}
 use mathlib.Core.Bool.{Bool, true, false, cond, not}
 use mathlib.Core.List.{List, [], _∷_}

@@ -1,4 +1,4 @@
--- Demand 3 for the sessions of document 01: the theorems of `calls` in their world. A list of calls begins at the fresh session; each call's contract is one step.
+-- Demand 3 (SPEC, "Demands") for our sessions: the theorems of `calls` in their world. A list of calls begins at the fresh session; each call's contract is one step.
 use mathlib.Core.Path.{_≡_}
 use mathlib.Core.List.{List, [], _∷_, _++_, map}
 use Prim.Native.Nat.{ℕ, _*_, min}
@@ -27,11 +27,11 @@ Calls = List (Call world)
 abbrev pub left : Calls → Model.Session world
 left cs = after world (meaning fresh) cs
 
--- "Which of its calls are refused, and each hand-out's count, end and points, must be what these rules give"
+-- refusals, and each hand-out's count, end and points, are those of the rules
 pub session-rules : (cs : Calls) → map (verdict world) (answers world (meaning fresh) cs) ≡ verdicts world (begin world) cs
 session-rules = whole-list world
 
--- "the first ones of the job's full list", "in rising order, each once", "as many as .. had space for, or all of them if they are fewer"
+-- the beginning of the full list, in rising order, each once, as much as there was space for, or all if that is less
 pub session-first : (cs : Calls) → points world (since world cs) ≡ flat numbersOf (take (spaces world (since world cs)) (fullOf world (left cs)))
 session-first = handed-first world
 
@@ -41,11 +41,11 @@ session-rising = handed-rising world
 pub session-count : (cs : Calls) → length (points world (since world cs)) ≡ 4 * min (spaces world (since world cs)) (length (fullOf world (left cs)))
 session-count = handed-count world
 
--- "Each hand-out that isn't refused reports the end exactly when none is left after it."
+-- a hand-out that is not refused reports the end exactly when none is left after it
 pub session-end : (cs : Calls) (l : List ℤ) → Reports world (step world (handOut l) (left cs) .0) (leftAfter world (cs ++ (handOut l ∷ [])))
 session-end = end-reported world
 
--- "A list with its refused calls struck out .. gives the other calls the same answers and leaves the same session."
+-- with the refused calls struck out, the others get the same answers and leave the same session
 pub session-refused : (cs : Calls) → NotMade world (meaning fresh) cs
 session-refused cs = not-made world cs (meaning fresh)
 
@@ -56,6 +56,6 @@ session-operators = alike-hand-outs world
 pub session-others : (cs ds : Calls) → struck world cs ≡ struck world ds → picked world (isIndependent world) (meaning fresh) cs ≡ picked world (isIndependent world) (meaning fresh) ds
 session-others = alike-others world
 
--- "The session remembers the last operator that a caller had accepted, the identity if none"
+-- what a session remembers: the last operator that was accepted, the identity if none
 pub session-remembers : (cs : Calls) → operatorOf world (left cs) ≡ lastAccepted world identity (exchanges world (meaning fresh) cs)
 session-remembers = last-remembered world

@@ -1,4 +1,4 @@
--- The image question: document 01, "Operators". "It says yes if and only if w is what the remembered operator makes of a solution of the job".
+-- The image question: SPEC, "Questions". It says yes if and only if w is the image of a solution under the remembered operator.
 use mathlib.Core.Path.{_≡_, refl, sym, ap, _∙_}
 use mathlib.Core.Bool.{true}
 use mathlib.Core.Logic.{_↔_}

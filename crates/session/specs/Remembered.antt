@@ -1,4 +1,4 @@
--- The operator that a session remembers passed the test: after every list of calls, so that the image question asks what document 01 says.
+-- The operator that a session remembers passed the test: after every list of calls, so that the image question asks what SPEC, "Questions", says.
 use mathlib.Core.Path.{_≡_, refl, sym, ap, _∙_}
 use mathlib.Core.Bool.{Bool, true, false}
 use mathlib.Core.List.{List, [], _∷_}

@@ -36,7 +36,7 @@ pub data From : Session → List Made → Session → Type 0 where
 abbrev pub Run : List Made → Session → Type 0
 Run ms t = From fresh ms t
 
--- what was asked, and what was answered, with document 01's number of each refusal
+-- what was asked, and what was answered, with the number of each refusal (SPEC, "Refusals")
 abbrev pub callsOf : List Made → List (Call world)
 callsOf [] = []
 callsOf (m ∷ ms) = m .call ∷ callsOf ms

@@ -32,23 +32,23 @@ run-since r = ap (sinceAfter world []) (from-exchanges r)
 abbrev pub listOf : Session → List ℕ
 listOf s = fullOf world (meaning s)
 
--- "Which of its calls are refused, and each hand-out's count, end and points, must be what these rules give from the calls' arguments alone"
+-- refusals, and each hand-out's count, end and points, are those of the rules, from the calls' arguments alone
 pub run-rules : {ms : List Made} {t : Session} → Run ms t → map (verdict world) (answersOf ms) ≡ verdicts world (begin world) (callsOf ms)
 run-rules {ms} r = ap (map (verdict world)) (from-answers r) ∙ session-rules (callsOf ms)
 
--- "the points handed out since the last rewind or clearing are the first ones of the job's full list"
+-- what was handed out since the last rewind or clearing is the beginning of the full list
 pub run-first : {ms : List Made} {t : Session} → Run ms t → points world (sinceOf ms) ≡ flat numbersOf (take (spaces world (sinceOf ms)) (listOf t))
 run-first {ms} r = rw (run-since r, from-after r) (session-first (callsOf ms))
 
--- "in rising order, each once", by the points' ranks (`run-points` says it of the points)
+-- in rising order, each once, by the points' ranks (`run-points` says it of the points)
 pub run-rising : {ms : List Made} {t : Session} → Run ms t → Rising 0 (take (spaces world (sinceOf ms)) (listOf t))
 run-rising {ms} r = rw (run-since r, from-after r) (session-rising (callsOf ms))
 
--- "as many as the hand-outs since then had space for, or all of them if they are fewer"
+-- as many as there was space for, or all if they are fewer
 pub run-count : {ms : List Made} {t : Session} → Run ms t → length (points world (sinceOf ms)) ≡ 4 * min (spaces world (sinceOf ms)) (length (listOf t))
 run-count {ms} r = rw (run-since r, from-after r) (session-count (callsOf ms))
 
--- ---- "Each hand-out that isn't refused reports the end exactly when none is left after it."
+-- ---- a hand-out that is not refused reports the end exactly when none is left after it
 from-more : {s t u : Session} {ms : List Made} {m : Made} → From s ms t → Link t m u → From s (ms ++ (m ∷ [])) u
 from-more none k = then k none
 from-more (then j r) k = then j (from-more r k)
@@ -76,7 +76,7 @@ link-refused {s} {m} k h = link-session k ∙ refused-same world (m .call) (mean
 pub slice-refused : (s : Session) {t : Session} {old new : List ℤ} {f : Refusal} → Hands s old new t (A.Refused f) → new ≡ old
 slice-refused s {old} h = h .slice ∙ refused-lent world (step world (handOut old) (meaning s) .0) old (ap (isRefused world) (sym (ap (λ (o : Model.Outcome world). o .0) (h .met))))
 
--- ---- "A list with its refused calls struck out .. gives the other calls the same answers and leaves the same session."
+-- ---- with the refused calls struck out, the others get the same answers and leave the same session
 abbrev pub kept : List Made → List Made
 kept [] = []
 kept (m ∷ ms) = cond (isRefused world (answered m)) (kept ms) (m ∷ kept ms)
@@ -118,7 +118,7 @@ module _ {ms ns : List Made} {t u : Session} (r : Run ms t) (q : Run ns u) (same
   pub run-refused-session : Fits (u .stage) → Fits (t .stage) → u ≡ t
   run-refused-session f g = meaning-one f g run-refused-meaning
 
--- ---- "Two lists that are alike once their operator readings are struck out get the same answers and the same points from their hand-outs."
+-- ---- two lists that are alike without their operator readings get the same answers and points from their hand-outs
 -- the answers to the calls that are picked
 abbrev pub pickedOf : (Call world → Bool) → List Made → List (Model.Answer world)
 pickedOf picks [] = []

@@ -47,7 +47,7 @@ pointsOf (a ∷ b ∷ c ∷ d ∷ l) = record { a = a; b = b; c = c; d = d } ∷
 abbrev pub handedOut : List Made → List Point
 handedOut ms = pointsOf (points world (sinceOf ms))
 
--- "ordered by a, then b, c, d, as signed numbers": each point comes before all that follow it, so none comes twice
+-- point order: a first, then b, c, d, as signed numbers: each point comes before all that follow it, so none comes twice
 abbrev pub BeforeAll : Point → List Point → Type 0
 BeforeAll v [] = Unit {0}
 BeforeAll v (w ∷ l) = PointBefore v w × BeforeAll v l
@@ -101,13 +101,13 @@ first-ascending (early p) (suc n) up = tt
 first-ascending (walking j w o) n up =
     ascending j 0 (take n (Model.full world j)) up (solving-take j n (Model.full world j) (solving j (Model.full world j) (λ r m. rest-sound (solvesAt j) (top span) 0 r m .2)))
 
--- "in rising order, each once", of the points themselves, for every run
+-- in rising order, each once, of the points themselves, for every run
 pub run-points : {ms : List Made} {t : Session} → Run ms t → Ascending (handedOut ms)
 run-points {ms} {t} r =
     let n = spaces world (sinceOf ms) in
     rw (run-first r, flat-points (take n (listOf t))) (first-ascending (meaning t) n (run-rising r))
 
--- ---- "a finished walk has handed out u if and only if u solves the scaled grid problem"
+-- ---- a finished walk has handed out u if and only if u solves the job
 pub record Finished (ms : List Made) (t : Session) : Type 0 where
   pub course : Course
   pub stands : t .stage ≡ S.Walking course
@@ -141,7 +141,7 @@ run-finished {ms} {t} r e =
       rising = run-points r;
     }
 
--- ---- "A job is called empty if and only if no such u exists."
+-- ---- the plain question says no if and only if no point solves the job
 nil-not : (l : List ℕ) → (not (isNil l) ≡ false) ↔ (l ≡ [])
 nil-not [] = ((λ e. refl), (λ e. refl))
 nil-not (x ∷ l) = ((λ e. absurd (let z : _≡_ {A = ℕ} 0 1 = cc in omega arith)), (λ e. cc))

@@ -49,7 +49,7 @@ meaning s = stageOf (s .stage)
 abbrev pub fresh : Session
 fresh = record { stage = S.Fresh }
 
--- ---- answers, with document 01's number of each refusal; a hand-out's with the lent slice as it is then
+-- ---- answers, with the number of each refusal (SPEC, "Refusals"); a hand-out's with the lent slice as it is then
 abbrev pub answerOf : List ℤ → Answer → Model.Answer world
 answerOf l (A.Taken n) = taken n
 answerOf l (A.Handed n e) = handed n e l
@@ -91,7 +91,7 @@ stageOutcome (S.Walking c) r = remembered world (c .job) (spotOf (c .spot)) (c .
 abbrev pub outcomeOf : Session → D.Reading → Model.Outcome world
 outcomeOf s r = stageOutcome (s .stage) r
 
--- "refused .. and then changing nothing"
+-- a refused reading changes nothing
 pub refused-outcome : (g : Stage) (f : Refusal) → (refused (number f), stageOf g) ≡ stageOutcome g (RV.Refused f)
 refused-outcome S.Fresh f = refl
 refused-outcome (S.Scaled k) f = refl

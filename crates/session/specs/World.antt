@@ -1,4 +1,4 @@
--- The world of the sessions: the records, jobs, solutions and operators of document 01, as `calls` asks for them.
+-- The world of the sessions: the records, jobs, solutions and operators of SPEC, as `calls` asks for them.
 use Rattle.record.specs.Record.{number, readingOf, kindOf, pickKind, kindReading, admissionOf, kind-4}
 use mathlib.Core.Path.{_≡_, refl, subst⁻¹}
 use mathlib.Core.Bool.{Bool, true, false, false≢true}
@@ -33,7 +33,7 @@ pub data Parts : Type 0 where
   scaled : ℕ → Parts
   first : ℕ → Region → Parts
 
--- "The turn is: scale, region A, region B, then any number of operators"
+-- the turn: scale, region A, region B, then operators
 abbrev pub turnAt : Parts → Turn
 turnAt nothing = T.Scale
 turnAt (scaled k) = T.First
@@ -64,7 +64,7 @@ abbrev pub operatorReading : Read.Reading → Reading Operator
 operatorReading (RV.Accepted x n) = note x n
 operatorReading (RV.Refused f) = refuse (number f)
 
--- "It says yes if and only if .. its inverse sends w to a solution"
+-- yes if and only if the inverse sends w to a solution
 abbrev pub undone : Job → Inverse → Point → Bool
 undone j (I.Operator h) w = solves j (imageOf h w)
 undone j (I.Refused c) w = false

@@ -1,4 +1,4 @@
-// The image question: document 01, "Operators".
+// The image question: SPEC, "Questions".
 ghost use mathlib.Core.Path.{_≡_};
 ghost use Rattle.operator.specs.Operator.{wide};
 ghost use Rattle.region.specs.Region.{solves};

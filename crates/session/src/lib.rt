@@ -1,4 +1,4 @@
-// A session and its calls, by value: document 01, "The walk" and "A whole list of calls". Each call's contract is one step of the model in `calls`.
+// A session and its calls, by value: SPEC, "Walk" and "Calls". Each call's contract is one step of the model in `calls`.
 ghost use mathlib.Core.Path.{_≡_};
 ghost use mathlib.Core.List.{[]};
 ghost use Rattle.calls.specs.Session.{reading, handOut, rewind, clear, plain, imageOf};

@@ -1,4 +1,4 @@
--- Gate words (document 02, Ticket 6), from parities up.
+-- Gate words (SPEC, "Gate words"), from parities up.
 pub mod Bits
 pub mod Finite
 pub mod Odd

@@ -1,4 +1,4 @@
-// The words of gates that spell a matrix: document 02, Ticket 6. Theorems only; the code that writes the words is in `gates`.
+// The words of gates that spell a matrix: SPEC, "Gate words". Theorems only; the code that writes the words is in `gates`.
 use ring::Point;
 
 // The parities of a point's coordinates: true is odd.

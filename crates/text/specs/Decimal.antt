@@ -1,4 +1,4 @@
--- Numbers in decimal: document 01, "The list program". Assumes nothing.
+-- Numbers in decimal: SPEC, "List program". Assumes nothing.
 use Prim.Native.Nat.{ℕ, zero, suc, _+_, _/_, _%_}
 use mathlib.Core.Bool.{true, false}
 use mathlib.Core.List.{List, [], _∷_, _++_}

@@ -1,4 +1,4 @@
--- Bytes written as pairs of hexadecimal digits. They serve the lines that our programs read, of which document 01 has no section. Assumes nothing.
+-- Bytes written as pairs of hexadecimal digits. They serve the lines of SPEC, "Console". Assumes nothing.
 use Prim.Native.Nat.{ℕ, _+_, _-_, _*_, _/_, _%_}
 use mathlib.Core.Bool.{Bool, true, false, cond}
 use mathlib.Core.List.{List, [], _∷_}

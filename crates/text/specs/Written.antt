@@ -1,4 +1,4 @@
--- Bytes put at a place of a list, where they fit: document 01, "The list program". Assumes nothing.
+-- Bytes put at a place of a list, where they fit: SPEC, "List program". Assumes nothing.
 use Prim.Native.Nat.{ℕ, _+_}
 use mathlib.Core.Bool.{cond}
 use mathlib.Core.List.{List, _++_}

@@ -1,4 +1,4 @@
--- The command that the first word of a line names. It serves the lines that our programs read, of which document 01 has no section. Assumes nothing.
+-- The command that the first word of a line names. It serves the lines of SPEC, "Console". Assumes nothing.
 use Prim.Native.Nat.{ℕ, suc, _<_}
 use mathlib.Core.Path.{_≡_, refl, sym, ap, ap₂}
 use mathlib.Core.Bool.{Bool, true, false, cond}

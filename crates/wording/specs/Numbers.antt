@@ -1,4 +1,4 @@
--- The numbers of a line. They serve the lines that our programs read, of which document 01 has no section. Assumes nothing.
+-- The numbers of a line. They serve the lines of SPEC, "Console". Assumes nothing.
 use Prim.Native.Nat.{ℕ, zero, suc, _^_, _<_, _≤_}
 use mathlib.Core.Path.{_≡_, refl}
 use mathlib.Core.Bool.{Bool, true, false, cond}

@@ -54,7 +54,9 @@ pub const OMEGA: usize = 20;
 pub const DELTA: usize = 21;
 
 pub const IDENTITY: usize = 22;
+
 pub const ENTRY: usize = 23;
+
 pub const WORD: usize = 24;
 
 // The numbers after the first word, at most 16, where the words are good.

@@ -1,4 +1,4 @@
--- The starred points of document 01, "Points worked by hand", and the counts of document 02: one table, one test that computes over its rows, and one law that turns the test into
+-- The starred points of SPEC, "Worked points", and the counts of "Other entry": one table, one test that computes over its rows, and one law that turns the test into
 -- each row's claim. A claim is in the terms of the definitions that the contracts cite.
 use mathlib.Core.Path.{_≡_, refl, _∙_, ap}
 use mathlib.Core.Bool.{Bool, true, false}
