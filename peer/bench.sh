@@ -4,13 +4,16 @@
 # user and system, of whole runs, as the machine may be shared. LIMIT sets the
 # seconds by the clock that a call may take, 10 if unset, and LIST_LIMIT those
 # of a whole list, 60 if unset. The skewed jobs are many: EVERY=n takes each
-# n-th of them, 1 if unset.
+# n-th of them, 1 if unset. HARD sets the number of hard random jobs of each
+# range of scales, 20000 if unset, and SEED their seed, 1 if unset.
 set -u
 [ $# -eq 1 ] || { echo "usage: $0 BIN" >&2; exit 2; }
 bin=$1
 call_limit=${LIMIT:-10}
 list_limit=${LIST_LIMIT:-60}
 every=${EVERY:-1}
+hard=${HARD:-20000}
+seed=${SEED:-1}
 peer=${PEER:-$(dirname "$0")/target/release/peer}
 scratch=$(mktemp -d) || exit 2
 trap 'rm -rf "$scratch"' EXIT
@@ -149,9 +152,19 @@ candidates() {
     done
 }
 
+# Hard random jobs: first points, the plain question and next points in
+# processor time beyond the program's start, and those over the limit in ms.
+hard_jobs() {
+    echo 'Hard random jobs, k up to 12 with the limit of 10 ms, k from 13 to 20 with that of 20 ms:'
+    "$peer" time "$bin/console" "$seed" "$hard" 0 12 10
+    "$peer" time "$bin/console" "$seed" "$hard" 13 20 20
+}
+
 whole_lists
 echo
 calls
+echo
+hard_jobs
 echo
 memory
 echo
