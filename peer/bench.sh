@@ -4,13 +4,16 @@
 # user and system, of whole runs, as the machine may be shared. LIMIT sets the
 # seconds by the clock that a call may take, 10 if unset, and LIST_LIMIT those
 # of a whole list, 60 if unset. The skewed jobs are many: EVERY=n takes each
-# n-th of them, 1 if unset.
+# n-th of them, 1 if unset. HARD sets the number of hard random jobs of each
+# range of scales, 20000 if unset, and SEED their seed, 1 if unset.
 set -u
 [ $# -eq 1 ] || { echo "usage: $0 BIN" >&2; exit 2; }
 bin=$1
 call_limit=${LIMIT:-10}
 list_limit=${LIST_LIMIT:-60}
 every=${EVERY:-1}
+hard=${HARD:-20000}
+seed=${SEED:-1}
 peer=${PEER:-$(dirname "$0")/target/release/peer}
 scratch=$(mktemp -d) || exit 2
 trap 'rm -rf "$scratch"' EXIT
@@ -179,11 +182,48 @@ lines() {
     done
 }
 
+# The other entry: whole lists by the console, in milliseconds of a run of ten,
+# and by the peer's nested loops, one run.
+entries() {
+    local row='%-26s %8s %12s %12s\n' problem i TIMEFORMAT='%U %S'
+    echo 'The other entry, milliseconds of processor time: all points of a list of up to 1,024, and the peer'
+    # shellcheck disable=SC2059
+    printf "$row" 'k and v' points ours peer
+    for problem in '12 0 0 0 0' '12 1 2 3 4' '16 0 0 0 0' '16 11 -7 100 3' '20 0 0 0 0' '20 1 2 3 4' '20 700 -100 300 41' '20 512 512 512 512'; do
+        for ((i = 0; i < 10; i++)); do echo "entry $problem 4096"; done >"$scratch/in"
+        { time "$bin/console" <"$scratch/in" >"$scratch/printed"; } 2>"$scratch/time"
+        ours=$(awk '{ printf "%.1f", ($1 + $2) * 100 }' "$scratch/time")
+        theirs=-
+        case $problem in
+            20*) ;;
+            *)
+                # shellcheck disable=SC2086
+                { time "$peer" entry $problem >"$scratch/said"; } 2>"$scratch/time"
+                theirs=$(awk '{ printf "%.1f", ($1 + $2) * 1000 }' "$scratch/time")
+                ;;
+        esac
+        # shellcheck disable=SC2059
+        printf "$row" "$problem" "$(head -n 1 "$scratch/printed" | awk '{ print $2 }')" "$ours" "$theirs"
+    done
+}
+
+# Hard random jobs: first points, the plain question and next points in
+# processor time beyond the program's start, and those over the limit in ms.
+hard_jobs() {
+    echo 'Hard random jobs, k up to 12 with the limit of 10 ms, k from 13 to 20 with that of 20 ms:'
+    "$peer" time "$bin/console" "$seed" "$hard" 0 12 10
+    "$peer" time "$bin/console" "$seed" "$hard" 13 20 20
+}
+
 whole_lists
 echo
 lines
 echo
+entries
+echo
 calls
+echo
+hard_jobs
 echo
 memory
 echo

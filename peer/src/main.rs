@@ -4,6 +4,7 @@ mod adversary;
 mod bench;
 mod bounds;
 mod bytes;
+mod entry;
 mod generate;
 mod job;
 mod line;
@@ -41,6 +42,7 @@ const LONGEST_INPUT: usize = 65_536;
 const USAGE: &str = "usage: peer [list | count | first] < job
        peer line NA LO HI NB LO HI [A B]
        peer sign P Q
+       peer entry K A B C D
        peer gen SEED COUNT DIR
        peer pack < records > job
        peer jobs DIR
@@ -71,6 +73,7 @@ fn run(arguments: &[String]) -> Outcome {
         ("count", []) => with_job(count),
         ("first", []) => with_job(first),
         ("line", _) => line(&numbers(rest)?),
+        ("entry", _) => entry(&numbers(rest)?),
         ("sign", [p, q]) => {
             let [p, q] = [p, q].map(|text| number::<i128>(text));
             say(root2::sign(p?, q?))
@@ -190,6 +193,21 @@ fn spoiled_records(random: &[u8]) -> Vec<u8> {
         }
     }
     records
+}
+
+/// All w that make, with v, the first column of a unitary matrix at scale k.
+fn entry(numbers: &[i64]) -> Outcome {
+    let &[k, a, b, c, d] = numbers else {
+        return Err(USAGE.into());
+    };
+    if !(0..=20).contains(&k) {
+        return say("refused 4");
+    }
+    let mut out = BufWriter::new(io::stdout().lock());
+    for Point { a, b, c, d } in entry::all(k as u32, Point { a, b, c, d }) {
+        writeln!(out, "{a} {b} {c} {d}")?;
+    }
+    Ok(out.flush()?)
 }
 
 /// Writes what the list program prints for an input.
