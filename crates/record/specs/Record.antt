@@ -9,6 +9,7 @@ use lib.ListN.{length, drop, getD, length-drop}
 use borrow.Author.Tests.{ne-eqb}
 use Rattle.region.specs.declared.Rectangle.{Rectangle}
 use Rattle.region.specs.declared.Ellipse.{Ellipse}
+use Rattle.region.specs.declared.Slice.{Slice}
 use Rattle.region.specs.declared.Region.{Region}
 use Rattle.region.specs.declared.Region.the-variants as Shape
 use Rattle.region.specs.declared.Check.the-variants as R
@@ -25,7 +26,7 @@ use Rattle.record.specs.declared.Turn.the-variants as T
 use Rattle.record.specs.declared.Record.{Record}
 use Rattle.record.specs.declared.Record.the-variants as Rec
 use Rattle.record.specs.declared.Refusal.{Refusal}
-use Rattle.record.specs.declared.Refusal.the-variants.{NoKind, UnknownKind, Short, OutOfRange, NotPositive, OddParity, NotSpecial, OutOfTurn, NoJob, Ended}
+use Rattle.record.specs.declared.Refusal.the-variants.{NoKind, UnknownKind, Short, OutOfRange, NotPositive, OddParity, NotSpecial, OutOfTurn, NoJob, Ended, NoDirection}
 use Rattle.record.specs.declared.Admission.{Admission}
 use Rattle.record.specs.declared.Admission.the-variants as A
 use Rattle.record.specs.declared.Reading.{Reading}
@@ -44,6 +45,7 @@ number NotSpecial = 7
 number OutOfTurn = 8
 number NoJob = 9
 number Ended = 10
+number NoDirection = 11
 
 -- ---- kinds, with the length of the body
 abbrev pub pickKind : Bool → Kind → Kind → Kind
@@ -51,7 +53,7 @@ pickKind true x y = x
 pickKind false x y = y
 
 unfoldable pub kindOf : ℕ → Kind
-kindOf b = pickKind (eqb b 1) K.Scale (pickKind (eqb b 2) K.Rectangle (pickKind (eqb b 3) K.Ellipse (pickKind (eqb b 4) K.Operator K.Unknown)))
+kindOf b = pickKind (eqb b 1) K.Scale (pickKind (eqb b 2) K.Rectangle (pickKind (eqb b 3) K.Ellipse (pickKind (eqb b 4) K.Operator (pickKind (eqb b 5) K.Slice K.Unknown))))
 
 pub kind-1 : (b : ℕ) → b ≡ 1 → kindOf b ≡ K.Scale
 unfolding kindOf
@@ -69,14 +71,19 @@ pub kind-4 : (b : ℕ) → b ≡ 4 → kindOf b ≡ K.Operator
 unfolding kindOf
 kind-4 b e = rw e refl
 
-pub kind-unknown : (b : ℕ) → (b ≡ 1 → ⊥) → (b ≡ 2 → ⊥) → (b ≡ 3 → ⊥) → (b ≡ 4 → ⊥) → kindOf b ≡ K.Unknown
+pub kind-5 : (b : ℕ) → b ≡ 5 → kindOf b ≡ K.Slice
 unfolding kindOf
-kind-unknown b e f g h = rw (ne-eqb b 1 e, ne-eqb b 2 f, ne-eqb b 3 g, ne-eqb b 4 h) refl
+kind-5 b e = rw e refl
+
+pub kind-unknown : (b : ℕ) → (b ≡ 1 → ⊥) → (b ≡ 2 → ⊥) → (b ≡ 3 → ⊥) → (b ≡ 4 → ⊥) → (b ≡ 5 → ⊥) → kindOf b ≡ K.Unknown
+unfolding kindOf
+kind-unknown b e f g h i = rw (ne-eqb b 1 e, ne-eqb b 2 f, ne-eqb b 3 g, ne-eqb b 4 h, ne-eqb b 5 i) refl
 
 abbrev pub bodyLength : Kind → ℕ
 bodyLength K.Scale = 1
 bodyLength K.Rectangle = 18
 bodyLength K.Ellipse = 20
+bodyLength K.Slice = 10
 bodyLength K.Operator = 16
 bodyLength K.Unknown = 0
 
@@ -103,6 +110,7 @@ abbrev pub inTurn : Kind → Turn → Bool
 inTurn K.Scale t = isScale t
 inTurn K.Rectangle t = isRegion t
 inTurn K.Ellipse t = isRegion t
+inTurn K.Slice t = isRegion t
 inTurn K.Operator t = isOperators t
 inTurn K.Unknown t = false
 
@@ -123,6 +131,10 @@ rectangleOf s = record { n = unsignedAt 2 s 0; xl = signedAt 4 s 2; xh = signedA
 unfoldable pub ellipseOf : List ℕ → Ellipse
 ellipseOf s = record { n = unsignedAt 2 s 0; cx = signedAt 4 s 2; cy = signedAt 4 s 6; p = unsignedAt 2 s 10; q = signedAt 2 s 12; r = unsignedAt 2 s 14; s = unsignedAt 4 s 16 }
 
+-- 05: n, zx, zy, w
+unfoldable pub sliceOf : List ℕ → Slice
+sliceOf s = record { n = unsignedAt 2 s 0; zx = signedAt 2 s 2; zy = signedAt 2 s 4; w = signedAt 4 s 6 }
+
 -- 04: G(1) as a, b, c, d, then G(i) as a', b', c', d'
 unfoldable pub operatorOf : List ℕ → Operator
 operatorOf s = record {
@@ -141,6 +153,7 @@ abbrev pub regionReading : RegionCheck.Check → Region → ℕ → Reading
 regionReading R.Accepted r n = Accepted (Rec.Region r) n
 regionReading R.OutOfRange r n = Refused OutOfRange
 regionReading R.NotPositive r n = Refused NotPositive
+regionReading R.NoDirection r n = Refused NoDirection
 
 abbrev pub operatorReading : OperatorCheck.Check → Operator → ℕ → Reading
 operatorReading O.Special g n = Accepted (Rec.Operator g) n
@@ -152,14 +165,16 @@ unfoldable pub bodyOf : Kind → List ℕ → Reading
 bodyOf K.Scale s = scaleOf s
 bodyOf K.Rectangle s = let r = Shape.Rectangle (rectangleOf s) in regionReading (Reg.checkOf r) r 19
 bodyOf K.Ellipse s = let r = Shape.Ellipse (ellipseOf s) in regionReading (Reg.checkOf r) r 21
+bodyOf K.Slice s = let r = Shape.Slice (sliceOf s) in regionReading (Reg.checkOf r) r 11
 bodyOf K.Operator s = let g = operatorOf s in operatorReading (Op.checkOf g) g 17
 bodyOf K.Unknown s = Refused UnknownKind
 
--- ---- the order of refusals: 1, 2, 8, 3, then those of the body, 4, 5, 6, 7
+-- ---- the order of refusals: 1, 2, 8, 3, then those of the body, 4, 5, 11, 6, 7
 abbrev pub isKnown : Kind → Bool
 isKnown K.Scale = true
 isKnown K.Rectangle = true
 isKnown K.Ellipse = true
+isKnown K.Slice = true
 isKnown K.Operator = true
 isKnown K.Unknown = false
 
@@ -219,6 +234,10 @@ module _ (k : Kind) (s : List ℕ) where
   pub body-ellipse : k ≡ K.Ellipse → (r : Ellipse) → r ≡ ellipseOf s → bodyOf k s ≡ regionReading (Reg.checkOf (Shape.Ellipse r)) (Shape.Ellipse r) 21
   unfolding bodyOf
   body-ellipse e r f = rw (e, f) refl
+
+  pub body-slice : k ≡ K.Slice → (r : Slice) → r ≡ sliceOf s → bodyOf k s ≡ regionReading (Reg.checkOf (Shape.Slice r)) (Shape.Slice r) 11
+  unfolding bodyOf
+  body-slice e r f = rw (e, f) refl
 
   pub body-operator : k ≡ K.Operator → (g : Operator) → g ≡ operatorOf s → bodyOf k s ≡ operatorReading (Op.checkOf g) g 17
   unfolding bodyOf

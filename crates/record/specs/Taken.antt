@@ -28,7 +28,7 @@ use Rattle.record.specs.declared.Admission.the-variants as A
 use Rattle.record.specs.declared.Reading.{Reading}
 use Rattle.record.specs.declared.Reading.the-variants.{Accepted, Refused}
 use Rattle.record.specs.Field.{unsignedAt}
-use Rattle.record.specs.Record.{pick, bodyLength, bodyOf, scaleOf, rectangleOf, ellipseOf, operatorOf, regionReading, operatorReading, isKnown, inTurn, admissionOf, admitted, kindReading, kindOf, readingOf, whole-long}
+use Rattle.record.specs.Record.{pick, bodyLength, bodyOf, scaleOf, rectangleOf, ellipseOf, sliceOf, operatorOf, regionReading, operatorReading, isKnown, inTurn, admissionOf, admitted, kindReading, kindOf, readingOf, whole-long}
 
 module _ (x : Record) (n : ℕ) where
   never : {P : Type 0} (f : Refusal) → Refused f ≡ Accepted x n → P
@@ -45,6 +45,7 @@ module _ (x : Record) (n : ℕ) where
   region-takes R.Accepted r m e = same _ m e
   region-takes R.OutOfRange r m e = never _ e
   region-takes R.NotPositive r m e = never _ e
+  region-takes R.NoDirection r m e = never _ e
 
   operator-takes : (c : OperatorCheck.Check) (g : Operator) (m : ℕ) → operatorReading c g m ≡ Accepted x n → n ≡ m
   operator-takes O.Special g m e = same _ m e
@@ -57,6 +58,7 @@ module _ (x : Record) (n : ℕ) where
   body-takes K.Scale s e = picked (leb (unsignedAt 1 s 0) Reg.topScale) (Rec.Scale (unsignedAt 1 s 0)) 2 OutOfRange e
   body-takes K.Rectangle s e = region-takes (Reg.checkOf (Shape.Rectangle (rectangleOf s))) (Shape.Rectangle (rectangleOf s)) 19 e
   body-takes K.Ellipse s e = region-takes (Reg.checkOf (Shape.Ellipse (ellipseOf s))) (Shape.Ellipse (ellipseOf s)) 21 e
+  body-takes K.Slice s e = region-takes (Reg.checkOf (Shape.Slice (sliceOf s))) (Shape.Slice (sliceOf s)) 11 e
   body-takes K.Operator s e = operator-takes (Op.checkOf (operatorOf s)) (operatorOf s) 17 e
   body-takes K.Unknown s e = never _ e
 

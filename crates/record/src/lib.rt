@@ -6,11 +6,12 @@ ghost use lib.ListN.{length};
 ghost use Rattle.region.specs.Region.{checkOf as regionCheck};
 ghost use Rattle.operator.specs.Operator.{checkOf as operatorCheck};
 ghost use Rattle.record.specs.Record.{number as numberOf};
-ghost use Rattle.record.specs.Record.{Reads, admissionOf, kindOf, isKnown, inTurn, isScale, isRegion, isOperators, bodyLength, bodyOf, scaleOf, rectangleOf, ellipseOf, operatorOf, regionReading, operatorReading};
+ghost use Rattle.record.specs.Record.{Reads, admissionOf, kindOf, isKnown, inTurn, isScale, isRegion, isOperators, bodyLength, bodyOf, scaleOf, rectangleOf, ellipseOf, sliceOf, operatorOf, regionReading, operatorReading};
 use operator::Operator;
 use region::Ellipse;
 use region::Rectangle;
 use region::Region;
+use region::Slice;
 
 mod field;
 
@@ -19,6 +20,7 @@ pub enum Kind {
     Scale,
     Rectangle,
     Ellipse,
+    Slice,
     Operator,
     Unknown,
 }
@@ -49,6 +51,7 @@ pub enum Refusal {
     OutOfTurn,
     NoJob,
     Ended,
+    NoDirection,
 }
 
 impl Refusal {
@@ -66,6 +69,7 @@ impl Refusal {
             Refusal::OutOfTurn => 8,
             Refusal::NoJob => 9,
             Refusal::Ended => 10,
+            Refusal::NoDirection => 11,
         }
     }
 }
@@ -121,6 +125,7 @@ fn kind_of(b: u8) -> Kind
         2 => Kind::Rectangle,
         3 => Kind::Ellipse,
         4 => Kind::Operator,
+        5 => Kind::Slice,
         _ => Kind::Unknown,
     }
 }
@@ -132,6 +137,7 @@ fn is_known(kind: Kind) -> bool
         Kind::Scale => true,
         Kind::Rectangle => true,
         Kind::Ellipse => true,
+        Kind::Slice => true,
         Kind::Operator => true,
         Kind::Unknown => false,
     }
@@ -145,6 +151,7 @@ fn in_turn(kind: Kind, turn: Turn) -> bool
         Kind::Scale => is_scale(turn),
         Kind::Rectangle => is_region(turn),
         Kind::Ellipse => is_region(turn),
+        Kind::Slice => is_region(turn),
         Kind::Operator => is_operators(turn),
         Kind::Unknown => false,
     }
@@ -190,6 +197,7 @@ fn body_length(kind: Kind) -> usize
         Kind::Scale => 1,
         Kind::Rectangle => 18,
         Kind::Ellipse => 20,
+        Kind::Slice => 10,
         Kind::Operator => 16,
         Kind::Unknown => 0,
     }
@@ -204,6 +212,7 @@ fn body(kind: Kind, s: &[u8]) -> Reading
         Kind::Scale => scale_at(s),
         Kind::Rectangle => checked_region(Region::Rectangle(rectangle_at(s)), 19),
         Kind::Ellipse => checked_region(Region::Ellipse(ellipse_at(s)), 21),
+        Kind::Slice => checked_region(Region::Slice(slice_at(s)), 11),
         Kind::Operator => checked_operator(operator_at(s), 17),
         Kind::Unknown => Reading::Refused(Refusal::UnknownKind),
     }
@@ -249,6 +258,18 @@ fn ellipse_at(s: &[u8]) -> Ellipse
     }
 }
 
+fn slice_at(s: &[u8]) -> Slice
+    requires { ⌜ 10 ≤ length (now s) ⌝ }
+    ensures { λ r. ⌜ r ≡ sliceOf (now (s .entry)) ⌝ }
+{
+    Slice {
+        n: field::u16_at(s, 0),
+        zx: field::i16_at(s, 2),
+        zy: field::i16_at(s, 4),
+        w: field::i32_at(s, 6),
+    }
+}
+
 fn operator_at(s: &[u8]) -> Operator
     requires { ⌜ 16 ≤ length (now s) ⌝ }
     ensures { λ r. ⌜ r ≡ operatorOf (now (s .entry)) ⌝ }
@@ -273,6 +294,7 @@ fn checked_region(r: Region, taken: usize) -> Reading
         region::Check::Accepted => Reading::Accepted(Record::Region(r), taken),
         region::Check::OutOfRange => Reading::Refused(Refusal::OutOfRange),
         region::Check::NotPositive => Reading::Refused(Refusal::NotPositive),
+        region::Check::NoDirection => Reading::Refused(Refusal::NoDirection),
     }
 }
 

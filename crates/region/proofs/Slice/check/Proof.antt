@@ -22,27 +22,27 @@ tested c =
     let h = fits (c .before .before .before .before) in
     rw (toZ-ofZ (h .0), toZ-ofZ (h .1), toZ-ofZ (h .2)) at (c .slice .ensures)
 
-returns : tie.Need-returns
-unfolding checkOf
-returns c = rw (sym (tested (c .before)) ∙ not-true _ (c .if1 .taken)) refl
-
 directed-requires : tie.Need-directed-requires
 directed-requires c κs = search needs
 
--- what the two tests say where the second is reached
-in-range : (c : tie.Else1) → inRangeS (c .before .before .before .before .before .args .self) ≡ true
-in-range c = sym (tested (c .before)) ∙ not-false _ (c .if1 .left)
+towards : (c : tie.After-directed) → let s = c .before .before .before .before .before .before .before .args .self in c .directed .result ≡ directed (s .zx) (s .zy)
+towards c = let h = fits (c .before .before .before .before .before .before .before) in rw (toZ-ofZ (h .0), toZ-ofZ (h .1)) at (c .directed .ensures)
 
-towards : (c : tie.After-directed) → let s = c .before .before .before .before .before .before .before .before .args .self in c .directed .result ≡ directed (s .zx) (s .zy)
-towards c = let h = fits (c .before .before .before .before .before .before .before .before) in rw (toZ-ofZ (h .0), toZ-ofZ (h .1)) at (c .directed .ensures)
+returns : tie.Need-returns
+unfolding checkOf
+returns c = rw (sym (tested (c .before .before .before .before)) ∙ not-true _ (c .if1 .taken)) refl
+
+-- what the first test says where the second is reached
+in-range : (c : tie.Else1) → inRangeS (c .before .before .before .before .before .before .before .before .args .self) ≡ true
+in-range c = sym (tested (c .before .before .before .before)) ∙ not-false _ (c .if1 .left)
 
 returns-2 : tie.Need-returns-2
 unfolding checkOf
-returns-2 c = rw (in-range (c .before .before .before .before), sym (towards (c .before)) ∙ c .if2 .taken) refl
+returns-2 c = rw (in-range (c .before), sym (towards (c .before .before)) ∙ c .if2 .taken) refl
 
 returns-3 : tie.Need-returns-3
 unfolding checkOf
-returns-3 c = rw (in-range (c .before .before .before .before), sym (towards (c .before)) ∙ c .if2 .left) refl
+returns-3 c = rw (in-range (c .before), sym (towards (c .before .before)) ∙ c .if2 .left) refl
 
 pub check-spec : {M : Type 1} → statement M
-check-spec = tie.close (tie.spec slice-requires returns directed-requires returns-2 returns-3)
+check-spec = tie.close (tie.spec slice-requires directed-requires returns returns-2 returns-3)
