@@ -1,5 +1,5 @@
 use mathlib.Core.Path.{sym, _∙_}
-use Rattle.record.specs.Record.{body-scale, body-rectangle, body-ellipse, body-operator, body-unknown}
+use Rattle.record.specs.Record.{body-scale, body-rectangle, body-ellipse, body-operator, body-selection, body-unknown}
 use borrow.Author.Needs.{needs}
 use Rattle.record.proofs.body.Statement.{statement}
 use Rattle.record.proofs.body.Tie as tie
@@ -40,6 +40,12 @@ checked-operator-requires c κs = search needs
 enum-told-5 : tie.Need-enum-told-5
 enum-told-5 c = search needs
 
+selection-at-requires : tie.Need-selection-at-requires
+selection-at-requires c κs = rw (c .enum-told5 .given .1) at (c .before .before .before .pre)
+
+enum-told-6 : tie.Need-enum-told-6
+enum-told-6 c = search needs
+
 returns : tie.Need-returns
 returns c = c .scale-at .ensures ∙ sym (body-scale _ _ (c .before .enum-told .given .1))
 
@@ -53,7 +59,10 @@ returns-4 : tie.Need-returns-4
 returns-4 c = c .checked-operator .ensures ∙ sym (body-operator _ _ (c .before .before .enum-told4 .given .1) _ (c .before .operator-at .ensures))
 
 returns-5 : tie.Need-returns-5
-returns-5 c = sym (body-unknown _ _ (c .enum-told5 .given .1))
+returns-5 c = c .selection-at .ensures ∙ sym (body-selection _ _ (c .before .enum-told5 .given .1))
+
+returns-6 : tie.Need-returns-6
+returns-6 c = sym (body-unknown _ _ (c .enum-told6 .given .1))
 
 pub body-spec : {M : Type 1} → statement M
 body-spec =
@@ -71,8 +80,11 @@ body-spec =
     operator-at-requires
     checked-operator-requires
     enum-told-5
+    selection-at-requires
+    enum-told-6
     returns
     returns-2
     returns-3
     returns-4
-    returns-5)
+    returns-5
+    returns-6)
