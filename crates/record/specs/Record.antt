@@ -53,7 +53,7 @@ pickKind true x y = x
 pickKind false x y = y
 
 unfoldable pub kindOf : ℕ → Kind
-kindOf b = pickKind (eqb b 1) K.Scale (pickKind (eqb b 2) K.Rectangle (pickKind (eqb b 3) K.Ellipse (pickKind (eqb b 4) K.Operator (pickKind (eqb b 5) K.Slice K.Unknown))))
+kindOf b = pickKind (eqb b 1) K.Scale (pickKind (eqb b 2) K.Rectangle (pickKind (eqb b 3) K.Ellipse (pickKind (eqb b 4) K.Operator (pickKind (eqb b 5) K.Slice (pickKind (eqb b 6) K.Selection K.Unknown)))))
 
 pub kind-1 : (b : ℕ) → b ≡ 1 → kindOf b ≡ K.Scale
 unfolding kindOf
@@ -75,9 +75,13 @@ pub kind-5 : (b : ℕ) → b ≡ 5 → kindOf b ≡ K.Slice
 unfolding kindOf
 kind-5 b e = rw e refl
 
-pub kind-unknown : (b : ℕ) → (b ≡ 1 → ⊥) → (b ≡ 2 → ⊥) → (b ≡ 3 → ⊥) → (b ≡ 4 → ⊥) → (b ≡ 5 → ⊥) → kindOf b ≡ K.Unknown
+pub kind-6 : (b : ℕ) → b ≡ 6 → kindOf b ≡ K.Selection
 unfolding kindOf
-kind-unknown b e f g h i = rw (ne-eqb b 1 e, ne-eqb b 2 f, ne-eqb b 3 g, ne-eqb b 4 h, ne-eqb b 5 i) refl
+kind-6 b e = rw e refl
+
+pub kind-unknown : (b : ℕ) → (b ≡ 1 → ⊥) → (b ≡ 2 → ⊥) → (b ≡ 3 → ⊥) → (b ≡ 4 → ⊥) → (b ≡ 5 → ⊥) → (b ≡ 6 → ⊥) → kindOf b ≡ K.Unknown
+unfolding kindOf
+kind-unknown b e f g h i l = rw (ne-eqb b 1 e, ne-eqb b 2 f, ne-eqb b 3 g, ne-eqb b 4 h, ne-eqb b 5 i, ne-eqb b 6 l) refl
 
 abbrev pub bodyLength : Kind → ℕ
 bodyLength K.Scale = 1
@@ -85,23 +89,34 @@ bodyLength K.Rectangle = 18
 bodyLength K.Ellipse = 20
 bodyLength K.Slice = 10
 bodyLength K.Operator = 16
+bodyLength K.Selection = 1
 bodyLength K.Unknown = 0
 
--- the turn is: scale, region A, region B, then any number of operators
+-- the turn is: scale, at most one selection, region A, region B, then any number of operators
 abbrev pub isScale : Turn → Bool
 isScale T.Scale = true
+isScale T.Selection = false
 isScale T.First = false
 isScale T.Second = false
 isScale T.Operators = false
 
+abbrev pub isSelection : Turn → Bool
+isSelection T.Scale = false
+isSelection T.Selection = true
+isSelection T.First = false
+isSelection T.Second = false
+isSelection T.Operators = false
+
 abbrev pub isRegion : Turn → Bool
 isRegion T.Scale = false
+isRegion T.Selection = true
 isRegion T.First = true
 isRegion T.Second = true
 isRegion T.Operators = false
 
 abbrev pub isOperators : Turn → Bool
 isOperators T.Scale = false
+isOperators T.Selection = false
 isOperators T.First = false
 isOperators T.Second = false
 isOperators T.Operators = true
@@ -112,6 +127,7 @@ inTurn K.Rectangle t = isRegion t
 inTurn K.Ellipse t = isRegion t
 inTurn K.Slice t = isRegion t
 inTurn K.Operator t = isOperators t
+inTurn K.Selection t = isSelection t
 inTurn K.Unknown t = false
 
 -- ---- bodies
@@ -148,6 +164,12 @@ operatorOf s = record {
   di = signedAt 2 s 14;
 }
 
+-- 06: 0 for new points only, 1 for all
+unfoldable pub selectionOf : List ℕ → Reading
+selectionOf s =
+    pick (eqb (unsignedAt 1 s 0) 0) (Accepted (Rec.Selection false) 2)
+    (pick (eqb (unsignedAt 1 s 0) 1) (Accepted (Rec.Selection true) 2) (Refused OutOfRange))
+
 -- what the check of a region, and of an operator, makes of a reading that took n bytes
 abbrev pub regionReading : RegionCheck.Check → Region → ℕ → Reading
 regionReading R.Accepted r n = Accepted (Rec.Region r) n
@@ -167,6 +189,7 @@ bodyOf K.Rectangle s = let r = Shape.Rectangle (rectangleOf s) in regionReading 
 bodyOf K.Ellipse s = let r = Shape.Ellipse (ellipseOf s) in regionReading (Reg.checkOf r) r 21
 bodyOf K.Slice s = let r = Shape.Slice (sliceOf s) in regionReading (Reg.checkOf r) r 11
 bodyOf K.Operator s = let g = operatorOf s in operatorReading (Op.checkOf g) g 17
+bodyOf K.Selection s = selectionOf s
 bodyOf K.Unknown s = Refused UnknownKind
 
 -- ---- the order of refusals: 1, 2, 8, 3, then those of the body, 4, 5, 11, 6, 7
@@ -176,6 +199,7 @@ isKnown K.Rectangle = true
 isKnown K.Ellipse = true
 isKnown K.Slice = true
 isKnown K.Operator = true
+isKnown K.Selection = true
 isKnown K.Unknown = false
 
 unfoldable pub admissionOf : (known fits short : Bool) → Admission
@@ -222,6 +246,20 @@ pub scale-out : (s : List ℕ) → leb (getD s 0 0) Reg.topScale ≡ false → s
 unfolding scaleOf
 scale-out s h = rw (one s 0, h) refl
 
+-- the three answers to a selection's byte
+module _ (s : List ℕ) where
+  pub selection-new : getD s 0 0 ≡ 0 → selectionOf s ≡ Accepted (Rec.Selection false) 2
+  unfolding selectionOf
+  selection-new e = rw (one s 0, e) refl
+
+  pub selection-all : getD s 0 0 ≡ 1 → selectionOf s ≡ Accepted (Rec.Selection true) 2
+  unfolding selectionOf
+  selection-all e = rw (one s 0, e) refl
+
+  pub selection-out : (getD s 0 0 ≡ 0 → ⊥) → (getD s 0 0 ≡ 1 → ⊥) → selectionOf s ≡ Refused OutOfRange
+  unfolding selectionOf
+  selection-out f g = rw (one s 0, ne-eqb (getD s 0 0) 0 f, ne-eqb (getD s 0 0) 1 g) refl
+
 module _ (k : Kind) (s : List ℕ) where
   pub body-scale : k ≡ K.Scale → bodyOf k s ≡ scaleOf s
   unfolding bodyOf
@@ -242,6 +280,10 @@ module _ (k : Kind) (s : List ℕ) where
   pub body-operator : k ≡ K.Operator → (g : Operator) → g ≡ operatorOf s → bodyOf k s ≡ operatorReading (Op.checkOf g) g 17
   unfolding bodyOf
   body-operator e g f = rw (e, f) refl
+
+  pub body-selection : k ≡ K.Selection → bodyOf k s ≡ selectionOf s
+  unfolding bodyOf
+  body-selection e = rw e refl
 
   pub body-unknown : k ≡ K.Unknown → bodyOf k s ≡ Refused UnknownKind
   unfolding bodyOf

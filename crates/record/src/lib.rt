@@ -6,7 +6,7 @@ ghost use lib.ListN.{length};
 ghost use Rattle.region.specs.Region.{checkOf as regionCheck};
 ghost use Rattle.operator.specs.Operator.{checkOf as operatorCheck};
 ghost use Rattle.record.specs.Record.{number as numberOf};
-ghost use Rattle.record.specs.Record.{Reads, admissionOf, kindOf, isKnown, inTurn, isScale, isRegion, isOperators, bodyLength, bodyOf, scaleOf, rectangleOf, ellipseOf, sliceOf, operatorOf, regionReading, operatorReading};
+ghost use Rattle.record.specs.Record.{Reads, admissionOf, kindOf, isKnown, inTurn, isScale, isSelection, isRegion, isOperators, bodyLength, bodyOf, scaleOf, selectionOf, rectangleOf, ellipseOf, sliceOf, operatorOf, regionReading, operatorReading};
 use operator::Operator;
 use region::Ellipse;
 use region::Rectangle;
@@ -22,12 +22,14 @@ pub enum Kind {
     Ellipse,
     Slice,
     Operator,
+    Selection,
     Unknown,
 }
 
-// What a job waits for.
+// What a job waits for: after the scale it is the selection or region A, after the selection only A.
 pub enum Turn {
     Scale,
+    Selection,
     First,
     Second,
     Operators,
@@ -35,6 +37,8 @@ pub enum Turn {
 
 pub enum Record {
     Scale(u8),
+    // Whether all solutions are listed, or only those that are new at the scale.
+    Selection(bool),
     Region(Region),
     Operator(Operator),
 }
@@ -126,6 +130,7 @@ fn kind_of(b: u8) -> Kind
         3 => Kind::Ellipse,
         4 => Kind::Operator,
         5 => Kind::Slice,
+        6 => Kind::Selection,
         _ => Kind::Unknown,
     }
 }
@@ -139,6 +144,7 @@ fn is_known(kind: Kind) -> bool
         Kind::Ellipse => true,
         Kind::Slice => true,
         Kind::Operator => true,
+        Kind::Selection => true,
         Kind::Unknown => false,
     }
 }
@@ -153,6 +159,7 @@ fn in_turn(kind: Kind, turn: Turn) -> bool
         Kind::Ellipse => is_region(turn),
         Kind::Slice => is_region(turn),
         Kind::Operator => is_operators(turn),
+        Kind::Selection => is_selection(turn),
         Kind::Unknown => false,
     }
 }
@@ -162,6 +169,19 @@ fn is_scale(turn: Turn) -> bool
 {
     match turn {
         Turn::Scale => true,
+        Turn::Selection => false,
+        Turn::First => false,
+        Turn::Second => false,
+        Turn::Operators => false,
+    }
+}
+
+fn is_selection(turn: Turn) -> bool
+    ensures { λ r. ⌜ r ≡ isSelection turn ⌝ }
+{
+    match turn {
+        Turn::Scale => false,
+        Turn::Selection => true,
         Turn::First => false,
         Turn::Second => false,
         Turn::Operators => false,
@@ -173,6 +193,7 @@ fn is_region(turn: Turn) -> bool
 {
     match turn {
         Turn::Scale => false,
+        Turn::Selection => true,
         Turn::First => true,
         Turn::Second => true,
         Turn::Operators => false,
@@ -184,6 +205,7 @@ fn is_operators(turn: Turn) -> bool
 {
     match turn {
         Turn::Scale => false,
+        Turn::Selection => false,
         Turn::First => false,
         Turn::Second => false,
         Turn::Operators => true,
@@ -199,6 +221,7 @@ fn body_length(kind: Kind) -> usize
         Kind::Ellipse => 20,
         Kind::Slice => 10,
         Kind::Operator => 16,
+        Kind::Selection => 1,
         Kind::Unknown => 0,
     }
 }
@@ -214,6 +237,7 @@ fn body(kind: Kind, s: &[u8]) -> Reading
         Kind::Ellipse => checked_region(Region::Ellipse(ellipse_at(s)), 21),
         Kind::Slice => checked_region(Region::Slice(slice_at(s)), 11),
         Kind::Operator => checked_operator(operator_at(s), 17),
+        Kind::Selection => selection_at(s),
         Kind::Unknown => Reading::Refused(Refusal::UnknownKind),
     }
 }
@@ -227,6 +251,17 @@ fn scale_at(s: &[u8]) -> Reading
         Reading::Accepted(Record::Scale(k), 2)
     } else {
         Reading::Refused(Refusal::OutOfRange)
+    }
+}
+
+fn selection_at(s: &[u8]) -> Reading
+    requires { ⌜ 1 ≤ length (now s) ⌝ }
+    ensures { λ r. ⌜ r ≡ selectionOf (now (s .entry)) ⌝ }
+{
+    match s[0] {
+        0 => Reading::Accepted(Record::Selection(false), 2),
+        1 => Reading::Accepted(Record::Selection(true), 2),
+        _ => Reading::Refused(Refusal::OutOfRange),
     }
 }
 
