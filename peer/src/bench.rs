@@ -30,8 +30,12 @@ pub fn jobs() -> Vec<Named> {
     let some = [0, 6, 12];
     let plain = [disks(), tilted(), whole(), skewed("skewed", &low), reduction()];
     let narrow = [zero("zero", &some), thin("thin", &some)];
-    let deep =
-        [deep_disks(), skewed("deep_skewed", &high), zero("deep_zero", &high), thin("deep_thin", &high)];
+    let deep = [
+        deep_disks(),
+        skewed("deep_skewed", &high),
+        zero("deep_zero", &high),
+        thin("deep_thin", &high),
+    ];
     [plain.concat(), narrow.concat(), deep.concat()].concat()
 }
 

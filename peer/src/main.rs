@@ -13,6 +13,7 @@ mod member;
 mod pack;
 mod random;
 mod root2;
+mod session;
 #[cfg(test)]
 mod tests;
 mod timing;
@@ -34,6 +35,7 @@ use generate::Generator;
 use job::{encode, Job, ELLIPSE, OPERATOR, RECTANGLE, SCALE};
 use lines::Lines;
 use member::Point;
+use session::Session;
 use timing::Console;
 use walk::Walk;
 
@@ -43,6 +45,8 @@ const USAGE: &str = "usage: peer [list | count | first] < job
        peer line NA LO HI NB LO HI [A B]
        peer sign P Q
        peer entry K A B C D
+       peer shortest < job
+       peer session < calls
        peer gen SEED COUNT DIR
        peer pack < records > job
        peer jobs DIR
@@ -72,6 +76,8 @@ fn run(arguments: &[String]) -> Outcome {
         ("list", []) => list(&input()?, io::stdout().lock()),
         ("count", []) => with_job(count),
         ("first", []) => with_job(first),
+        ("shortest", []) => with_job(shortest),
+        ("session", []) => session(),
         ("line", _) => line(&numbers(rest)?),
         ("entry", _) => entry(&numbers(rest)?),
         ("sign", [p, q]) => {
@@ -195,6 +201,29 @@ fn spoiled_records(random: &[u8]) -> Vec<u8> {
     records
 }
 
+/// Prints the scale, u and t of a job's shortest pattern.
+fn shortest(job: &Job) -> Outcome {
+    match entry::shortest(job) {
+        None => say("refused 14"),
+        Some((k, u, t)) => {
+            let [u, t] = [u, t].map(|Point { a, b, c, d }| format!("{a} {b} {c} {d}"));
+            say(format!("{k} {u} {t}"))
+        }
+    }
+}
+
+/// Answers lines of calls as a console does, those of a session alone.
+fn session() -> Outcome {
+    let mut session = Session::default();
+    for line in io::stdin().lines() {
+        let line = line?;
+        if !line.is_empty() && !line.starts_with('#') {
+            say(session.answer(&line).unwrap_or_else(|| "bad line".into()))?;
+        }
+    }
+    Ok(())
+}
+
 /// All w that make, with v, the first column of a unitary matrix at scale k.
 fn entry(numbers: &[i64]) -> Outcome {
     let &[k, a, b, c, d] = numbers else {
@@ -253,7 +282,7 @@ fn first(job: &Job) -> Outcome {
     match found {
         Some(v) => {
             let e = v.exponent(job.k);
-            say(format!("{} {} {} {} {} {}", v.a, v.b, v.c, v.d, e, 2 * e))
+            say(format!("{} {} {} {} {} {}", v.a, v.b, v.c, v.d, e, (2 * e).saturating_sub(2)))
         }
         None => say("none"),
     }
