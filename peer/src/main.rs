@@ -32,7 +32,7 @@ use std::time::Instant;
 
 use adversary::Adversary;
 use generate::Generator;
-use job::{encode, Job, ELLIPSE, OPERATOR, RECTANGLE, SCALE};
+use job::{encode, Job, ELLIPSE, OPERATOR, RECTANGLE, SCALE, SELECTION, SLICE};
 use lines::Lines;
 use member::Point;
 use session::Session;
@@ -145,7 +145,7 @@ fn noise() -> Outcome {
         x = x.wrapping_mul(1_664_525).wrapping_add(1_013_904_223);
         let byte = (x >> 24) as u8;
         if (x >> 16) % 4 == 0 {
-            byte % 6
+            byte % 8
         } else {
             byte
         }
@@ -170,14 +170,18 @@ fn spoiled_records(random: &[u8]) -> Vec<u8> {
     let n = random.len();
     let square = |n, x, y| encode(RECTANGLE, &[n, x, x + n / 100, y, y + n / 100]);
     let disk = encode(ELLIPSE, &[1, 0, 0, 1, 0, 1, 1]);
-    let job = match n / 3 % 3 {
-        0 => [encode(SCALE, &[0]), disk.clone(), disk],
-        1 => [
+    let (new, all) = (encode(SELECTION, &[0]), encode(SELECTION, &[1]));
+    let job = match n / 3 % 5 {
+        0 => vec![encode(SCALE, &[0]), disk.clone(), disk],
+        1 => vec![
             encode(SCALE, &[1]),
+            all,
             encode(RECTANGLE, &[2, -2, 3, -1, 2]),
             encode(ELLIPSE, &[1, 0, 1, 2, 1, 1, 2]),
         ],
-        _ => [encode(SCALE, &[20]), square(4, 3, -1), square(100, 74, -26)],
+        2 => vec![encode(SCALE, &[20]), all, square(4, 3, -1), square(100, 74, -26)],
+        3 => vec![encode(SCALE, &[2]), encode(SLICE, &[2, 1, 1, 2]), disk],
+        _ => vec![encode(SCALE, &[3]), new, disk, encode(SLICE, &[3, 1, -2, 5])],
     };
     let mut records = job.concat();
     let operators =
