@@ -8,6 +8,9 @@ use crate::member::{Membership, Point};
 use crate::root2::Root2;
 use crate::walk::Walk;
 
+/// The longest slice that a hand-out is lent.
+const LONGEST: usize = 4_096;
+
 #[derive(Default)]
 pub struct Session {
     reading: Reading,
@@ -26,7 +29,10 @@ impl Session {
         let answer = match (command, rest) {
             ("read", []) => self.read(&[]),
             ("read", [hex]) => self.read(&bytes(hex)?),
-            ("hand", [length]) => self.hand_out(length.parse::<usize>().ok()? / 4),
+            ("hand", [length]) => {
+                let length: usize = length.parse().ok()?;
+                self.hand_out((length <= LONGEST).then_some(length / 4)?)
+            }
             ("rewind", []) => self.rewind(),
             ("clear", []) => {
                 *self = Session::default();
