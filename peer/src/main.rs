@@ -51,7 +51,7 @@ const USAGE: &str = "usage: peer [list | count | first] < job
        peer pack < records > job
        peer jobs DIR
        peer noise
-       peer time CONSOLE SEED COUNT LEAST MOST LIMIT
+       peer time CONSOLE SEED COUNT LEAST MOST LIMIT [CALL]
        peer bytes PROGRAM FROM TO STEP";
 
 type Outcome = Result<(), Box<dyn Error>>;
@@ -92,7 +92,11 @@ fn run(arguments: &[String]) -> Outcome {
         ("noise", []) => noise(),
         ("time", [console, seed, count, least, most, limit]) => {
             let scales = [number(least)?, number(most)?];
-            time(console, number(seed)?, number(count)?, scales, number(limit)?)
+            time(console, number(seed)?, number(count)?, scales, number(limit)?, None)
+        }
+        ("time", [console, seed, count, least, most, limit, call]) => {
+            let scales = [number(least)?, number(most)?];
+            time(console, number(seed)?, number(count)?, scales, number(limit)?, Some(call))
         }
         ("bytes", [program, from, to, step]) => {
             check_bytes(program, number(from)?, number(to)?, number(step)?)
@@ -340,8 +344,16 @@ fn hex(bytes: &[u8]) -> String {
 }
 
 /// Times a console's calls on hard random jobs: a first point, the plain
-/// question, and each of the next 100 points. LIMIT is in milliseconds.
-fn time(console: &str, seed: u64, count: usize, scales: [i64; 2], limit: i64) -> Outcome {
+/// question, and each of the next 100 points; or one given call. LIMIT is in
+/// milliseconds.
+fn time(
+    console: &str,
+    seed: u64,
+    count: usize,
+    scales: [i64; 2],
+    limit: i64,
+    call: Option<&str>,
+) -> Outcome {
     let console = Console::new(console)?;
     say(format!("start {} µs; jobs {count}, seed {seed}, k {scales:?}", console.start()))?;
     let mut adversary = Adversary::new(seed, scales);
@@ -354,6 +366,10 @@ fn time(console: &str, seed: u64, count: usize, scales: [i64; 2], limit: i64) ->
     let limit = 1_000 * limit;
     let with =
         |calls: &str| -> Vec<String> { jobs.iter().map(|job| job.clone() + calls).collect() };
+    if let Some(call) = call {
+        let scripts = with(&format!("{call}\n"));
+        return report(call, timing::slowest(&console, &scripts, limit)?, &jobs);
+    }
     for (name, call) in [("first", "hand 4\n"), ("plain", "plain\n")] {
         report(name, timing::slowest(&console, &with(call), limit)?, &jobs)?;
     }
