@@ -72,12 +72,14 @@ fn job_of(r: Row) -> Job {
     if r.second {
         return Job {
             k,
+            all: true,
             a: square(),
             b: Region::Slice(r.slice()),
         };
     }
     Job {
         k,
+        all: true,
         a: Region::Slice(r.slice()),
         b: square(),
     }
