@@ -15,19 +15,19 @@ use Rattle.integers.specs.Order.{≼-antisym}
 use Rattle.ring.specs.declared.Point.{Point}
 use Rattle.ring.specs.Point.{ext}
 use Rattle.region.specs.declared.Job.{Job}
-use Rattle.region.specs.Region.{solves}
-use Rattle.region.specs.Parts.{solvesParts, solves-is}
+use Rattle.region.specs.Selection.{listed, listed-solves}
 use Rattle.ranks.specs.Members.{Rising}
 use Rattle.ranks.specs.Handed.{flat}
 use Rattle.points.specs.Points.{Fits32, pointOf, rankOf, numbersOf, point-rank}
 use Rattle.points.specs.Listed.{Listed, passing, all-unique}
 use Rattle.walk.specs.Walk.{full}
-use Rattle.walk.specs.Full.{solution-fits}
+use Rattle.walk.specs.Full.{listed-fits}
 use Rattle.equation.specs.Equation.{completes, topScale}
 use Rattle.equation.specs.Size.{Within, half, solution-within}
 use Rattle.entry.specs.Entry.{full as entries}
 use Rattle.entry.specs.Full.{solution-fits as entry-fits}
 use Rattle.worked.specs.Bounded.{both, both-left, both-right, inBox, Within as Boxed, in-box}
+use Rattle.worked.specs.Twins.{listedBy, listed-by}
 
 -- ---- points that are the same
 abbrev pub same : ℤ → ℤ → Bool
@@ -133,7 +133,7 @@ wholeBy f m ps = both (everyPoint m (λ v. unless (f v) (member v ps))) (both (a
 
 -- of a job, all of whose solutions lie within ±m
 abbrev pub wholeList : Job → ℕ → List Point → Bool
-wholeList j m ps = both (inBox j m) (wholeBy (solvesParts j) m ps)
+wholeList j m ps = both (inBox j m) (wholeBy (listedBy j) m ps)
 
 -- of a matrix entry, where they lie within ±2^⌈k/2⌉
 abbrev pub wholeEntry : ℕ → Point → List Point → Bool
@@ -197,8 +197,8 @@ module _ (t f : Point → Bool) (is : (v : Point) → t v ≡ f v) (fits : (v : 
 pub whole-list : (j : Job) (m : ℕ) (ps : List Point) → T (wholeList j m ps) → flat numbersOf (full j) ≡ numbers ps
 unfolding full
 whole-list j m ps i =
-    let box = both-left (inBox j m) (wholeBy (solvesParts j) m ps) i in
-    whole-by (solves j) (solvesParts j) (solves-is j) (solution-fits j) m (λ v e. sized (in-box j m box v e)) ps (both-right (inBox j m) (wholeBy (solvesParts j) m ps) i)
+    let box = both-left (inBox j m) (wholeBy (listedBy j) m ps) i in
+    whole-by (listed j) (listedBy j) (listed-by j) (listed-fits j) m (λ v e. sized (in-box j m box v (listed-solves j v e))) ps (both-right (inBox j m) (wholeBy (listedBy j) m ps) i)
   where
     size : (z : ℤ) → z ≼ pos m → negℤ z ≼ pos m → natAbs z ≤ m
     size (pos n) h k = omega (arith, ≤→ℕ (pos n) (pos m) h)

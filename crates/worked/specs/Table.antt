@@ -20,7 +20,7 @@ use Rattle.ranks.specs.Handed.{flat}
 use Rattle.ranks.specs.Digits.{pair}
 use Rattle.ranks.specs.Rank.{rank}
 use Rattle.points.specs.Digits.{span}
-use Rattle.walk.specs.Walk.{numbersOf, full as solutions}
+use Rattle.walk.specs.Walk.{numbersOf, full as listing}
 use Rattle.equation.specs.Equation.{squares, cross, completes}
 use Rattle.entry.specs.Entry.{full as entries}
 use Rattle.line.specs.Line.{pairOf, inRange, full}
@@ -43,7 +43,7 @@ pub data Row : Type 0 where
   image : Operator → Point → Point → Row
   -- the pairs a, b with a + b√2 in [0, h] and a − b√2 in [−1, 1], one after the other
   line : ℤ → List ℤ → Row
-  -- the solutions of a job, in order; all lie within ±m
+  -- the listed points of a job, in order; all solutions lie within ±m
   job : Job → (m : ℕ) → List Point → Row
   -- the points w that solve the equation of Ticket 2 with v at scale k, in order
   entry : ℕ → Point → List Point → Row
@@ -58,7 +58,7 @@ Claim (sign p q s) = number (signOf p q) ≡ s
 Claim (operator g n) = refusal (checkOf g) ≡ n
 Claim (image g v w) = imageOf g v ≡ w
 Claim (line h l) = flat pairOf (full (example.upTo h) example.unit) ≡ l
-Claim (job j m ps) = flat numbersOf (solutions j) ≡ numbers ps
+Claim (job j m ps) = flat numbersOf (listing j) ≡ numbers ps
 Claim (entry k v ps) = flat numbersOf (entries k v) ≡ numbers ps
 Claim (exponent k v e) = exponentOf k v ≡ e
 Claim (asked j g w b) = isImage j g w ≡ b
@@ -136,13 +136,13 @@ point a b c d = record { a = a; b = b; c = c; d = d }
 abbrev flatBox : ℕ → ℤ → ℤ → Region
 flatBox n l h = R.Rectangle (record { n = n; xl = l; xh = h; yl = pos 0; yh = pos 0 })
 
-abbrev rectangles : ℕ → ℕ → ℤ → ℤ → ℤ → ℤ → Job
-rectangles k n l h l′ h′ = record { k = k; all = true; a = flatBox n l h; b = flatBox 1 l′ h′ }
+abbrev rectangles : ℕ → Bool → ℕ → ℤ → ℤ → ℤ → ℤ → Job
+rectangles k all n l h l′ h′ = record { k = k; all = all; a = flatBox n l h; b = flatBox 1 l′ h′ }
 
 abbrev unitDisks : Job
 unitDisks =
     let disk = R.Ellipse (record { n = 1; cx = pos 0; cy = pos 0; p = 1; q = pos 0; r = 1; s = 1 }) in
-    record { k = 0; all = true; a = disk; b = disk }
+    record { k = 0; all = false; a = disk; b = disk }
 
 -- the eight points ±1, ±ω, ±ω², ±ω³
 abbrev units : List Point
@@ -167,11 +167,13 @@ table =
     ∷ operator (eight (negsuc 0) (pos 0) (pos 1) (pos 1) (pos 1) (pos 1) (pos 1) (pos 0)) 7
     ∷ line (pos 5) (pos 0 ∷ pos 0 ∷ pos 1 ∷ pos 0 ∷ pos 1 ∷ pos 1 ∷ pos 2 ∷ pos 1 ∷ pos 2 ∷ pos 2 ∷ [])
     ∷ line (pos 6) (pos 0 ∷ pos 0 ∷ pos 1 ∷ pos 0 ∷ pos 1 ∷ pos 1 ∷ pos 2 ∷ pos 1 ∷ pos 2 ∷ pos 2 ∷ pos 3 ∷ pos 2 ∷ [])
-    ∷ job (rectangles 0 12 (pos 16) (pos 17) (negsuc 1) (negsuc 0)) 2 (point (negsuc 0) (pos 0) (pos 1) (pos 0) ∷ [])
-    ∷ job (rectangles 0 5 (pos 6) (pos 7) (negsuc 1) (negsuc 0)) 2 []
-    ∷ job (rectangles 1 1 (pos 1) (pos 2) (negsuc 1) (negsuc 0)) 2 (point (pos 0) (pos 0) (pos 0) (pos 2) ∷ [])
+    ∷ job (rectangles 0 false 12 (pos 16) (pos 17) (negsuc 1) (negsuc 0)) 2 (point (negsuc 0) (pos 0) (pos 1) (pos 0) ∷ [])
+    ∷ job (rectangles 0 false 5 (pos 6) (pos 7) (negsuc 1) (negsuc 0)) 2 []
+    ∷ job (rectangles 1 true 1 (pos 1) (pos 2) (negsuc 1) (negsuc 0)) 2 (point (pos 0) (pos 0) (pos 0) (pos 2) ∷ [])
+    ∷ job (rectangles 1 false 1 (pos 1) (pos 2) (negsuc 1) (negsuc 0)) 2 []
     ∷ exponent 1 (point (pos 0) (pos 0) (pos 0) (pos 2)) 0
-    ∷ job (rectangles 1 1 (pos 1) (pos 2) (pos 1) (pos 2)) 2 (point (negsuc 1) (pos 0) (pos 2) (pos 0) ∷ point (negsuc 0) (pos 0) (pos 1) (pos 0) ∷ [])
+    ∷ job (rectangles 1 true 1 (pos 1) (pos 2) (pos 1) (pos 2)) 2 (point (negsuc 1) (pos 0) (pos 2) (pos 0) ∷ point (negsuc 0) (pos 0) (pos 1) (pos 0) ∷ [])
+    ∷ job (rectangles 1 false 10 (pos 7) (pos 15) (negsuc 1) (pos 0)) 2 (point (pos 0) (pos 0) (pos 0) (pos 1) ∷ [])
     ∷ entry 0 (point (pos 0) (pos 0) (pos 0) (pos 0)) units
     ∷ entry 1 (point (pos 0) (pos 0) (pos 0) (pos 1)) units
     ∷ asked unitDisks (eight (pos 0) (pos 0) (pos 0) (pos 1) (negsuc 0) (pos 1) (pos 1) (pos 0)) (point (negsuc 0) (pos 1) (pos 1) (pos 0)) true

@@ -1,8 +1,9 @@
--- Tests that compute, equal to definitions that are shut: the exponent, and the image question.
-use mathlib.Core.Path.{_≡_, refl, sym, _∙_, ap}
-use mathlib.Core.Bool.{Bool, false}
+-- Tests that compute, equal to definitions that are shut: the exponent, whether a job lists a point, and the image question.
+use mathlib.Core.Path.{_≡_, refl, sym, _∙_, ap, ap₂}
+use mathlib.Core.Bool.{Bool, false, _&&_, _||_}
 use Prim.Native.Nat.{ℕ, zero, suc, _-_}
 use native.Mathlib.Omega.{arith}
+use lib.Dec.{eqb}
 use lib.IntN.{_-ℤ_}
 use Rattle.integers.specs.Parity.{even}
 use Rattle.ring.specs.declared.Point.{Point}
@@ -12,6 +13,7 @@ use Rattle.ring.specs.Point.Divide.{both, pick, halves, divideRoot2, divide-is}
 use Rattle.ring.specs.Point.Exponent.{next, exponentOf, exponent-zero, exponent-whole, exponent-not}
 use Rattle.region.specs.declared.Job.{Job}
 use Rattle.region.specs.Parts.{solvesParts, solves-is}
+use Rattle.region.specs.Selection.{isNew, listed}
 use Rattle.operator.specs.declared.Operator.{Operator}
 use Rattle.operator.specs.declared.Inverse.{Inverse}
 use Rattle.operator.specs.declared.Inverse.the-variants as I
@@ -33,8 +35,15 @@ exponent-by (suc k) v = go (pick (both (even (v .a -ℤ v .c)) (even (v .b -ℤ 
         sym (exponent-whole (suc k) v z (omega arith) e) ∙ ap (λ (n : ℕ). exponentOf n z) f ∙ less z
     go NotInRing e less = sym (exponent-not (suc k) v (omega arith) e)
 
+abbrev pub listedBy : Job → Point → Bool
+listedBy j v = (j .all || eqb (exponentBy (j .k) v) (j .k)) && solvesParts j v
+
+pub listed-by : (j : Job) (v : Point) → listed j v ≡ listedBy j v
+unfolding listed isNew
+listed-by j v = ap₂ (λ (e : ℕ) (b : Bool). (j .all || eqb e (j .k)) && b) (exponent-by (j .k) v) (solves-is j v)
+
 abbrev pub undoneBy : Job → Inverse → Point → Bool
-undoneBy j (I.Operator h) w = solvesParts j (imageOf h w)
+undoneBy j (I.Operator h) w = listedBy j (imageOf h w)
 undoneBy j (I.Refused c) w = false
 
 abbrev pub isImageBy : Job → Operator → Point → Bool
@@ -45,5 +54,5 @@ unfolding isImage
 image-by j g w = go (inverseOf g)
   where
     go : (i : Inverse) → undone j i w ≡ undoneBy j i w
-    go (I.Operator h) = solves-is j (imageOf h w)
+    go (I.Operator h) = listed-by j (imageOf h w)
     go (I.Refused c) = refl
