@@ -7,8 +7,9 @@ ghost use Rattle.ring.specs.RootTwo.{num};
 ghost use Rattle.ring.specs.RootTwo.Order.{nonneg, _⊑_};
 ghost use Rattle.region.specs.Region.{accepted};
 ghost use Rattle.region.specs.Sizes.{Sized};
+ghost use Rattle.region.specs.ReachOver.{Bounds};
 ghost use Rattle.region.specs.declared.Region.the-variants as R;
-ghost use Rattle.question.specs.Reach.{Direction, farEnd, widthOf, Half-width, Reaches};
+ghost use Rattle.question.specs.Reach.{reachSize, Direction, farEnd, widthOf, Half-width, Either, Reaches};
 use crate::exact::combined;
 use crate::exact::product;
 use line::row::nonneg;
@@ -90,12 +91,40 @@ fn over_ellipse(e: Ellipse, u: RootTwo, v: RootTwo) -> RootTwo
     }
 }
 
-// No farther than the disk.
+// The number a + b√2 where that is small and at most d, else d.
+fn lesser(d: RootTwo, a: i64, b: i64) -> RootTwo
+    requires { ⌜ Sized reachSize reachSize d × (natAbs a ≤ 2 ^ 31) × (natAbs b ≤ 2 ^ 31) ⌝ }
+    ensures { λ r. ⌜ Either d a b r ⌝ }
+{
+    if 33554432 < integers::abs(a) {
+        return d;
+    }
+    if 33554432 < integers::abs(b) {
+        return d;
+    }
+    if nonneg(d.p - a, d.q - b) {
+        RootTwo { p: a, q: b }
+    } else {
+        d
+    }
+}
+
+// The slice's bound in a whole direction.
+fn whole(s: Slice, u: i64, v: i64) -> i64
+    requires { ⌜ (accepted (R.Slice s) ≡ true) × (natAbs u ≤ 200) × (natAbs v ≤ 200) ⌝ }
+    ensures { λ r. ⌜ Bounds (R.Slice s) u v r ⌝ }
+{
+    let r = Region::Slice(s);
+    r.bound(u as i16, v as i16)
+}
+
+// No farther than the disk, nor than the whole directions that (u, v) is made of.
 fn over_slice(s: Slice, u: RootTwo, v: RootTwo) -> RootTwo
     requires { ⌜ (accepted (R.Slice s) ≡ true) × Direction u v ⌝ }
     ensures { λ h. ⌜ Reaches (R.Slice s) u v h ⌝ }
 {
-    over_ellipse(s.disk(), u, v)
+    let d = over_ellipse(s.disk(), u, v);
+    lesser(d, whole(s, u.p, v.p), whole(s, u.q, v.q))
 }
 
 pub(crate) fn over(region: Region, u: RootTwo, v: RootTwo) -> RootTwo
