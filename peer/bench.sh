@@ -58,6 +58,68 @@ whole_lists() {
     done
 }
 
+# Thin slices as A, the unit disk as B: a first point, whose target is 0.020,
+# and the whole list, beside that of the ellipse around the slice.
+slices() {
+    local row='%-26s %9s %7s %8s %10s %8s %6s %8s\n' job around first slice points
+    echo 'Thin slices and the closest ellipse around each: the first point, whole lists, their points, and the peer for the slice'
+    # shellcheck disable=SC2059
+    printf "$row" slice points first list 'in ellipse' list ratio peer
+    for job in "$jobs"/slice-*.job; do
+        console 'hand 4' "$job"; first=$took
+        around=${job/slice-/around-}
+        printed=$scratch/printed
+        run "$list_limit" "$job" "$bin/list"; slice=$took
+        points=$(tail -n 1 "$printed" | sed 's/^end //')
+        run "$list_limit" "$around" "$bin/list"; ellipse=$took
+        more=$(tail -n 1 "$printed" | sed 's/^end //')
+        run "$list_limit" "$job" "$peer" list
+        # shellcheck disable=SC2059
+        printf "$row" "$(basename "$job" .job)" "${points:--}" "$first" "$slice" "${more:--}" "$ellipse" "$(ratio "$slice" "$ellipse")" "$took"
+    done
+}
+
+# The same regions with 06 01 and with 06 00.
+selections() {
+    local row='%-14s %10s %8s %10s %8s %6s\n' job all new
+    echo 'All points and the new ones: points and the whole list of each'
+    # shellcheck disable=SC2059
+    printf "$row" job all list new list ratio
+    printed=$scratch/printed
+    for job in "$jobs"/all-*.job; do
+        run "$list_limit" "$job" "$bin/list"; all=$took
+        points=$(tail -n 1 "$printed" | sed 's/^end //')
+        run "$list_limit" "${job/all-/new-}" "$bin/list"; new=$took
+        # shellcheck disable=SC2059
+        printf "$row" "$(basename "$job" .job | sed 's/^all-//')" "$points" "$all" "$(tail -n 1 "$printed" | sed 's/^end //')" "$new" "$(ratio "$new" "$all")"
+    done
+}
+
+# The shortest pattern: jobs of the largest scale, then the table of the console's
+# script, job by job. The answers are compared with the peer's.
+patterns() {
+    local job script n=0
+    echo 'The shortest pattern, k = 20 (target 2 s): seconds, the peer, the answer'
+    for job in "$jobs"/pattern-*.job; do
+        console shortest "$job"; ours=$took
+        printed=$scratch/printed
+        run "$call_limit" "$job" "$peer" shortest
+        [ "${answer#ok }" = "$(cat "$printed")" ] || { echo "shortest differs on $job" >&2; exit 1; }
+        printf '%-28s %7s %7s  %s\n' "$(basename "$job" .job)" "$ours" "$took" "$answer"
+    done
+    script=$(dirname "$0")/../crates/console/stdin
+    sed '1,/^# the shortest pattern: a table/d; /^#/,$d' "$script" >"$scratch/table"
+    rm -f "$scratch/least"
+    awk -v at="$scratch/row-" '/^clear/ { n++ } { print > (at n) }' "$scratch/table"
+    printed=$scratch/printed
+    for job in "$scratch"/row-*; do
+        run "$call_limit" "$job" "$bin/console"
+        echo "$took $(sed -n 's/^read //p' "$job" | tr -d '\n')" >>"$scratch/least"
+        n=$((n + 1))
+    done
+    tell table least 5.000 "$scratch/least"
+}
+
 # console CALL JOB: sets answer to a console's last answer to the job's records
 # and CALL; empty where the limit passed.
 console() {
@@ -213,9 +275,18 @@ hard_jobs() {
     echo 'Hard random jobs, k up to 12 with the limit of 10 ms, k from 13 to 20 with that of 20 ms:'
     "$peer" time "$bin/console" "$seed" "$hard" 0 12 10
     "$peer" time "$bin/console" "$seed" "$hard" 13 20 20
+    echo 'The shortest pattern of hard random jobs, with the limit of 2 s:'
+    "$peer" time "$bin/console" "$seed" "$hard" 0 12 2000 shortest
+    "$peer" time "$bin/console" "$seed" "$((hard / 10))" 13 20 2000 shortest
 }
 
 whole_lists
+echo
+slices
+echo
+selections
+echo
+patterns
 echo
 lines
 echo

@@ -1,7 +1,7 @@
 //! Random jobs that are hard for a walk in point order: sides that are thin,
-//! huge, skewed or of one point, in every mixture.
+//! huge, skewed, of one point or slices, in every mixture, with either selection.
 
-use crate::job::{encode, ELLIPSE, RECTANGLE, SCALE};
+use crate::job::{encode, ELLIPSE, RECTANGLE, SCALE, SELECTION, SLICE};
 use crate::random::Random;
 
 const FAR: i64 = 10_000;
@@ -25,18 +25,22 @@ impl Adversary {
     }
 
     /// The records of a job.
-    pub fn job(&mut self) -> [Vec<u8>; 3] {
+    pub fn job(&mut self) -> [Vec<u8>; 4] {
         let [least, most] = self.scales;
         let k = if most <= 12 {
             self.random.pick(&SCALES).clamp(least, most)
         } else {
             self.random.between(least, most)
         };
-        [encode(SCALE, &[k]), self.side(), self.side()]
+        let byte = self.random.between(0, 1);
+        [encode(SCALE, &[k]), encode(SELECTION, &[byte]), self.side(), self.side()]
     }
 
     fn side(&mut self) -> Vec<u8> {
         let n = self.random.pick(&DIVISORS);
+        if self.random.once_in(3) {
+            return self.slice(n);
+        }
         if self.random.once_in(2) {
             let ([xl, xh], [yl, yh]) = (self.interval(), self.interval());
             return encode(RECTANGLE, &[n, xl, xh, yl, yh]);
@@ -52,6 +56,23 @@ impl Adversary {
         };
         let [cx, cy] = if self.of_ten(3) { [0, 0] } else { [self.far(), self.far()] };
         encode(ELLIPSE, &[n, cx, cy, p, q, r, s])
+    }
+
+    /// A slice: thin, touching, just empty, half or most of the disk.
+    fn slice(&mut self, n: i64) -> Vec<u8> {
+        let most = self.random.pick(&[1, 10, 100, 100]);
+        let mut part = || self.random.between(-most, most);
+        let (zx, zy) = (part(), part());
+        let (zx, zy) = if zx == 0 && zy == 0 { (most, 0) } else { (zx, zy) };
+        let reach = (n * n * (zx * zx + zy * zy)).isqrt();
+        let w = match self.random.between(0, 9) {
+            0..=3 => reach - self.random.between(0, reach / 1_000 + 1),
+            4..=6 => reach - self.random.between(0, reach / 10 + 1),
+            7 => reach + self.random.between(0, 1),
+            8 => 0,
+            _ => self.random.between(-reach - 1, reach),
+        };
+        encode(SLICE, &[n, zx, zy, w])
     }
 
     fn far(&mut self) -> i64 {

@@ -1,12 +1,12 @@
 //! The jobs of the benchmark, by families.
 
-use crate::job::{encode, ELLIPSE, RECTANGLE, SCALE};
+use crate::job::{encode, ELLIPSE, RECTANGLE, SCALE, SELECTION, SLICE};
 
 /// A region's kind and values.
 type Region = (u8, Vec<i64>);
 
 /// A name that begins with the job's family, and its records.
-pub type Named = (String, [Vec<u8>; 3]);
+pub type Named = (String, Vec<Vec<u8>>);
 
 const DISK: [i64; 3] = [1, 0, 1];
 
@@ -25,18 +25,48 @@ const FORMS: [[i64; 3]; 8] = [
     [92, 95, 99],
 ];
 
+/// Thin slices, n = 100: zx, zy and w, about 0.9, 0.99, 0.999 and 0.9999 of its
+/// greatest; then the ellipse, n = 100, of the least area that has one of them
+/// inside: centre, form and S.
+const SLICES: [([i64; 3], [i64; 2], [i64; 3], i64); 12] = [
+    ([60, 80, 9000], [57, 74], [38, 49, 68], 4564),
+    ([60, 80, 9900], [59, 80], [53, 70, 93], 64),
+    ([60, 80, 9990], [60, 80], [51, 68, 91], 4),
+    ([60, 80, 9999], [60, 80], [57, 75, 100], 1),
+    ([-99, 13, 8986], [-92, 14], [86, -10, 3], 4296),
+    ([-99, 13, 9885], [-99, 10], [91, -13, 2], 50),
+    ([-99, 13, 9975], [-99, 13], [54, -7, 1], 2),
+    ([-99, 13, 9984], [-99, 14], [92, -13, 2], 1),
+    ([71, -70, 8973], [66, -66], [74, -70, 71], 6339),
+    ([71, -70, 9871], [71, -69], [55, -54, 54], 110),
+    ([71, -70, 9960], [72, -69], [96, -91, 87], 15),
+    ([71, -70, 9969], [72, -69], [95, -79, 68], 14),
+];
+
 pub fn jobs() -> Vec<Named> {
     let (low, high) = ([0, 3, 4, 6, 8, 10, 12], [13, 16, 20]);
     let some = [0, 6, 12];
     let plain = [disks(), tilted(), whole(), skewed("skewed", &low), reduction()];
     let narrow = [zero("zero", &some), thin("thin", &some)];
-    let deep =
-        [deep_disks(), skewed("deep_skewed", &high), zero("deep_zero", &high), thin("deep_thin", &high)];
-    [plain.concat(), narrow.concat(), deep.concat()].concat()
+    let deep = [
+        deep_disks(),
+        skewed("deep_skewed", &high),
+        zero("deep_zero", &high),
+        thin("deep_thin", &high),
+    ];
+    let later = [slices(), selections(), patterns()];
+    [plain.concat(), narrow.concat(), deep.concat(), later.concat()].concat()
 }
 
+/// A job of all points.
 fn job(name: String, k: i64, a: &Region, b: &Region) -> Named {
-    (name, [encode(SCALE, &[k]), encode(a.0, &a.1), encode(b.0, &b.1)])
+    selected(name, k, 1, a, b)
+}
+
+fn selected(name: String, k: i64, byte: i64, a: &Region, b: &Region) -> Named {
+    let records =
+        vec![encode(SCALE, &[k]), encode(SELECTION, &[byte]), encode(a.0, &a.1), encode(b.0, &b.1)];
+    (name, records)
 }
 
 fn rectangle(n: i64, [xl, xh]: [i64; 2], [yl, yh]: [i64; 2]) -> Region {
@@ -45,6 +75,10 @@ fn rectangle(n: i64, [xl, xh]: [i64; 2], [yl, yh]: [i64; 2]) -> Region {
 
 fn ellipse(n: i64, [cx, cy]: [i64; 2], [p, q, r]: [i64; 3], s: i64) -> Region {
     (ELLIPSE, vec![n, cx, cy, p, q, r, s])
+}
+
+fn slice([zx, zy, w]: [i64; 3]) -> Region {
+    (SLICE, vec![100, zx, zy, w])
 }
 
 fn disk() -> Region {
@@ -71,6 +105,60 @@ fn tilted() -> Vec<Named> {
             ]
         })
         .collect()
+}
+
+/// Thin slices as A and the unit disk as B, each beside the ellipse around it.
+fn slices() -> Vec<Named> {
+    let mut jobs = Vec::new();
+    for (fields, centre, form, s) in SLICES {
+        let [zx, zy, w] = fields;
+        for k in [0, 2, 4, 6, 8, 10, 12] {
+            let name = format!("{zx}_{zy}-w{w}-k{k:02}");
+            jobs.push(job(format!("slice-{name}"), k, &slice(fields), &disk()));
+            let around = ellipse(100, centre, form, s);
+            jobs.push(job(format!("around-{name}"), k, &around, &disk()));
+        }
+    }
+    jobs
+}
+
+/// The same regions with all points and with the new ones.
+fn selections() -> Vec<Named> {
+    let tilted = ellipse(100, [55, 31], [50, -57, 65], 1);
+    let [crossed_a, crossed_b] = crossed(100, [[0, 0]; 2], 0, 10_000);
+    let regions = [
+        ("disks", 8, disk(), disk()),
+        ("disks", 10, disk(), disk()),
+        ("slice", 12, slice([60, 80, 9_000]), disk()),
+        ("tilted", 12, tilted, disk()),
+        ("crossed", 8, crossed_a, crossed_b),
+    ];
+    let both = |(name, k, a, b): (&str, i64, Region, Region)| {
+        [(1, "all"), (0, "new")]
+            .map(|(byte, which)| selected(format!("{which}-{name}-k{k:02}"), k, byte, &a, &b))
+    };
+    regions.into_iter().flat_map(both).collect()
+}
+
+/// Jobs for the shortest pattern: slices as A and the unit disk as B with the
+/// largest scale as the top, and regions of all points.
+fn patterns() -> Vec<Named> {
+    let everything = rectangle(1, FAR, FAR);
+    let outside = rectangle(1, [2, 10_000], FAR);
+    let mut jobs: Vec<Named> = SLICES
+        .iter()
+        .map(|&([zx, zy, w], ..)| {
+            job(format!("pattern-{zx}_{zy}-w{w}-k20"), 20, &slice([zx, zy, w]), &disk())
+        })
+        .collect();
+    // The thinnest that are not empty: ε from 0.0004 to 0.0012.
+    for [zx, zy, w] in [[26, 89, 9_272], [-93, 96, 13_366], [72, -76, 10_469], [-65, -71, 9_626]] {
+        let name = format!("pattern-{zx}_{zy}-w{w}-k20");
+        jobs.push(job(name, 20, &slice([zx, zy, w]), &disk()));
+    }
+    jobs.push(job("pattern-everything-k20".into(), 20, &everything, &everything));
+    jobs.push(job("pattern-outside-k20".into(), 20, &outside, &everything));
+    jobs
 }
 
 /// Skewed ellipses on both sides whose lists are not too long.

@@ -3,7 +3,9 @@
 //! Accepted jobs are small. Many are built around a point: a region is chosen
 //! so that its border goes exactly through that point, or just past it.
 
-use crate::job::{check_operator, encode, fields, read, ELLIPSE, OPERATOR, RECTANGLE, SCALE};
+use crate::job::{
+    check_operator, encode, fields, read, ELLIPSE, OPERATOR, RECTANGLE, SCALE, SELECTION, SLICE,
+};
 use crate::member::Point;
 use crate::random::Random;
 use crate::root2::{floor_root2, Root2};
@@ -48,13 +50,14 @@ impl Generator {
     /// A name for the sort of job, and its bytes.
     pub fn job(&mut self) -> (&'static str, Vec<u8>) {
         loop {
-            let (name, bytes) = match self.random.between(0, 22) {
+            let (name, bytes) = match self.random.between(0, 26) {
                 0..=4 => ("random", self.records(Self::any_region)),
                 5..=9 => ("border", self.records(Self::border_region)),
                 10..=11 => ("near", self.records(Self::near_region)),
                 12..=13 => ("thin", self.records(Self::thin_region)),
                 14 => ("empty", self.empty()),
                 20..=22 => ("deep", self.deep()),
+                23..=26 => ("slice", self.records(Self::slice_region)),
                 _ => ("malformed", self.malformed()),
             };
             if !is_too_large(&bytes) {
@@ -79,11 +82,19 @@ impl Generator {
         };
         let a = for_a(self, v, k);
         let b = for_b(self, v.seen_by_b(k), k);
-        let mut records = vec![Record::new(SCALE, &[k.into()]), a, b];
+        let mut records = vec![Record::new(SCALE, &[k.into()])];
+        records.extend(self.selection());
+        records.extend([a, b]);
         while self.random.once_in(4) {
             records.push(self.special_operator());
         }
         records
+    }
+
+    /// A record 06 of either value, or none.
+    fn selection(&mut self) -> Option<Record> {
+        let value = self.random.between(-1, 1);
+        (value >= 0).then(|| Record::new(SELECTION, &[value]))
     }
 
     /// A small point. Often X or Y, or both, are rational for it, since only
@@ -240,10 +251,39 @@ impl Generator {
         }
     }
 
+    /// A slice whose chord goes exactly through v where possible, next to it,
+    /// or anywhere; v is in the disk if there is an n for that.
+    fn slice_region(&mut self, v: Point, k: u32) -> Record {
+        let n = if self.random.once_in(8) { self.n() } else { self.random.between(1, 7) };
+        let (zx, zy) = loop {
+            let most = self.random.pick(&[1, 5, 100]);
+            let z = (self.random.between(-most, most), self.random.between(-most, most));
+            if z != (0, 0) {
+                break z;
+            }
+        };
+        let [x, y] = v.parts().map(|part| part.times(n));
+        let at = x.times(zx) + y.times(zy);
+        let w = match exact_quotient(at, k) {
+            Some(w) => w + self.random.pick(&[0, 0, 1]),
+            None => whole_below(at, k) + self.random.between(0, 1),
+        };
+        // At the border of the disk, and past it.
+        let reach = (n * n * (zx * zx + zy * zy)).isqrt();
+        let w = match self.random.between(0, 5) {
+            0 => reach + self.random.between(-1, 1),
+            1 => self.random.between(-reach - 1, reach + 1),
+            _ => w,
+        };
+        Record::new(SLICE, &[n, zx, zy, w.clamp(-1_000_000, 1_000_000)])
+    }
+
     /// A job with a rectangle that is the wrong way round, by one or more.
     fn empty(&mut self) -> Vec<u8> {
         let mut records = self.record_list(Self::roomy_region);
-        let region = 1 + self.random.index(2);
+        let rectangles: Vec<usize> =
+            (0..records.len()).filter(|&i| records[i].kind == RECTANGLE).collect();
+        let region = self.random.pick(&rectangles);
         let side = self.random.pick(&[1, 3]);
         let values = &mut records[region].values;
         values.swap(side, side + 1);
@@ -261,7 +301,10 @@ impl Generator {
         let v = Point { a: number(), b: number(), c: number(), d: number() };
         let a = self.small_region(v, k);
         let b = self.small_region(v.seen_by_b(k), k);
-        joined(&[Record::new(SCALE, &[k.into()]), a, b])
+        let mut records = vec![Record::new(SCALE, &[k.into()])];
+        records.extend(self.selection());
+        records.extend([a, b]);
+        joined(&records)
     }
 
     /// A region of some hundredths around v, or just beside it.
@@ -300,7 +343,8 @@ impl Generator {
 
     /// A job with one or more faults; now and then they leave it accepted.
     fn malformed(&mut self) -> Vec<u8> {
-        let mut records = self.record_list(Self::any_region);
+        let make = self.random.pick(&[Self::any_region as RegionMaker, Self::slice_region]);
+        let mut records = self.record_list(make);
         records.push(self.special_operator());
         while self.random.once_in(3) {
             self.spoil_records(&mut records);
@@ -316,7 +360,9 @@ impl Generator {
 
     fn spoil_records(&mut self, records: &mut Vec<Record>) {
         let (i, j) = (self.random.index(records.len()), self.random.index(records.len()));
-        match self.random.between(0, 8) {
+        match self.random.between(0, 10) {
+            9 => records.insert(i, Record::new(SELECTION, &[self.random.between(0, 2)])),
+            10 => records[i] = Record::new(SLICE, &[1, 0, 0, self.random.between(-1, 1)]),
             0 => records.swap(i, j),
             1 => records.insert(i, records[j].clone()),
             2 if records.len() > 1 => drop(records.remove(i)),
@@ -369,7 +415,7 @@ impl Generator {
                 let before = self.random.index(records.len());
                 let at = joined(&records[..before]).len();
                 let kind = self.random.between(0, 255) as u8;
-                bytes[at] = self.random.pick(&[0, 1, 2, 3, 4, 5, kind]);
+                bytes[at] = self.random.pick(&[0, 1, 2, 3, 4, 5, 6, 7, kind]);
             }
         }
     }
@@ -400,17 +446,19 @@ fn exact_quotient(part: Root2<i64>, k: u32) -> Option<i64> {
 
 /// The whole numbers next below, or equal to, X and Y.
 fn place_below(v: Point, n: i64, k: u32) -> (i64, i64) {
-    let unit = Root2::power(k + 1);
-    let [x, y] = v.parts().map(|part| {
-        let part = part.times(n);
-        if unit.q == 0 {
-            (part.p + floor_root2(part.q)).div_euclid(unit.p)
-        } else {
-            // (p + q√2)/(f√2) is (2q + p√2)/2f.
-            (2 * part.q + floor_root2(part.p)).div_euclid(2 * unit.q)
-        }
-    });
+    let [x, y] = v.parts().map(|part| whole_below(part.times(n), k));
     (x, y)
+}
+
+/// The whole number next below, or equal to, the quotient by √2^(k+1).
+fn whole_below(part: Root2<i64>, k: u32) -> i64 {
+    let unit = Root2::power(k + 1);
+    if unit.q == 0 {
+        (part.p + floor_root2(part.q)).div_euclid(unit.p)
+    } else {
+        // (p + q√2)/(f√2) is (2q + p√2)/2f.
+        (2 * part.q + floor_root2(part.p)).div_euclid(2 * unit.q)
+    }
 }
 
 /// The ellipse's form at v, times 2^(k+1).

@@ -20,13 +20,15 @@ pub const SCALE: u8 = 1;
 pub const RECTANGLE: u8 = 2;
 pub const ELLIPSE: u8 = 3;
 pub const OPERATOR: u8 = 4;
+pub const SLICE: u8 = 5;
+pub const SELECTION: u8 = 6;
 
 const N: Field = unsigned(2, 1, 100);
 const PLACE: Field = signed(4, 10_000);
 const ENTRY: Field = signed(2, 100);
 
-/// The fields of kinds 01 to 04.
-const KINDS: [&[Field]; 4] = [
+/// The fields of kinds 01 to 06.
+const KINDS: [&[Field]; 6] = [
     &[unsigned(1, 0, 20)],
     &[N, PLACE, PLACE, PLACE, PLACE],
     &[
@@ -39,6 +41,8 @@ const KINDS: [&[Field]; 4] = [
         unsigned(4, 0, 1_000_000),
     ],
     &[ENTRY, ENTRY, ENTRY, ENTRY, ENTRY, ENTRY, ENTRY, ENTRY],
+    &[N, ENTRY, ENTRY, signed(4, 1_000_000)],
+    &[unsigned(1, 0, 1)],
 ];
 
 /// The fields of a kind, if there is such a kind.
@@ -52,8 +56,26 @@ fn body_length(fields: &[Field]) -> usize {
 
 #[derive(Clone, Copy, Debug)]
 pub enum Shape {
-    Rectangle { xl: i64, xh: i64, yl: i64, yh: i64 },
-    Ellipse { cx: i64, cy: i64, p: i64, q: i64, r: i64, s: i64 },
+    Rectangle {
+        xl: i64,
+        xh: i64,
+        yl: i64,
+        yh: i64,
+    },
+    Ellipse {
+        cx: i64,
+        cy: i64,
+        p: i64,
+        q: i64,
+        r: i64,
+        s: i64,
+    },
+    /// Of the disk of radius n.
+    Slice {
+        zx: i64,
+        zy: i64,
+        w: i64,
+    },
 }
 
 #[derive(Clone, Copy, Debug)]
@@ -65,6 +87,8 @@ pub struct Region {
 #[derive(Clone, Copy, Debug)]
 pub struct Job {
     pub k: u32,
+    /// Whether points of a smaller exponent than k are listed too.
+    pub all: bool,
     pub a: Region,
     pub b: Region,
 }
@@ -78,8 +102,9 @@ pub struct Refusal {
 
 /// What has been read so far, in the order of the turn.
 #[derive(Default)]
-struct Reading {
+pub struct Reading {
     k: Option<u32>,
+    all: Option<bool>,
     a: Option<Region>,
     b: Option<Region>,
 }
@@ -88,15 +113,16 @@ impl Reading {
     fn is_turn_of(&self, kind: u8) -> bool {
         match kind {
             SCALE => self.k.is_none(),
+            SELECTION => self.k.is_some() && self.all.is_none() && self.a.is_none(),
             OPERATOR => self.b.is_some(),
             _ => self.k.is_some() && self.b.is_none(),
         }
     }
 
-    /// Takes one record from the front of `bytes`, which isn't empty.
-    /// Returns its length, or the number of the refusal.
-    fn take(&mut self, bytes: &[u8]) -> Result<usize, u8> {
-        let kind = bytes[0];
+    /// Takes one record from the front of `bytes`. Returns its length, or the
+    /// number of the refusal.
+    pub fn take(&mut self, bytes: &[u8]) -> Result<usize, u8> {
+        let kind = *bytes.first().ok_or(1)?;
         let fields = fields(kind).ok_or(2)?;
         if !self.is_turn_of(kind) {
             return Err(8);
@@ -106,6 +132,7 @@ impl Reading {
         let values = decode(fields, body).ok_or(4)?;
         match kind {
             SCALE => self.k = Some(values[0] as u32),
+            SELECTION => self.all = Some(values[0] == 1),
             OPERATOR => check_operator(&values)?,
             _ => self.add_region(region(kind, &values)?),
         }
@@ -120,8 +147,8 @@ impl Reading {
         }
     }
 
-    fn job(&self) -> Option<Job> {
-        Some(Job { k: self.k?, a: self.a?, b: self.b? })
+    pub fn job(&self) -> Option<Job> {
+        Some(Job { k: self.k?, all: self.all.unwrap_or(false), a: self.a?, b: self.b? })
     }
 }
 
@@ -136,7 +163,7 @@ pub fn read(bytes: &[u8]) -> Result<Job, Refusal> {
 }
 
 /// The values of a body, if all are in range.
-fn decode(fields: &[Field], body: &[u8]) -> Option<Vec<i64>> {
+pub fn decode(fields: &[Field], body: &[u8]) -> Option<Vec<i64>> {
     let mut rest = body;
     let mut values = Vec::with_capacity(fields.len());
     for field in fields {
@@ -166,6 +193,11 @@ fn region(kind: u8, values: &[i64]) -> Result<Region, u8> {
     if kind == RECTANGLE {
         let shape = Shape::Rectangle { xl: values[1], xh: values[2], yl: values[3], yh: values[4] };
         return Ok(Region { n, shape });
+    }
+    if kind == SLICE {
+        let (zx, zy, w) = (values[1], values[2], values[3]);
+        let is_flat = zx == 0 && zy == 0;
+        return if is_flat { Err(11) } else { Ok(Region { n, shape: Shape::Slice { zx, zy, w } }) };
     }
     let (cx, cy) = (values[1], values[2]);
     let (p, q, r, s) = (values[3], values[4], values[5], values[6]);

@@ -13,6 +13,7 @@ mod member;
 mod pack;
 mod random;
 mod root2;
+mod session;
 #[cfg(test)]
 mod tests;
 mod timing;
@@ -31,9 +32,10 @@ use std::time::Instant;
 
 use adversary::Adversary;
 use generate::Generator;
-use job::{encode, Job, ELLIPSE, OPERATOR, RECTANGLE, SCALE};
+use job::{encode, Job, ELLIPSE, OPERATOR, RECTANGLE, SCALE, SELECTION, SLICE};
 use lines::Lines;
 use member::Point;
+use session::Session;
 use timing::Console;
 use walk::Walk;
 
@@ -43,11 +45,13 @@ const USAGE: &str = "usage: peer [list | count | first] < job
        peer line NA LO HI NB LO HI [A B]
        peer sign P Q
        peer entry K A B C D
+       peer shortest < job
+       peer session < calls
        peer gen SEED COUNT DIR
        peer pack < records > job
        peer jobs DIR
        peer noise
-       peer time CONSOLE SEED COUNT LEAST MOST LIMIT
+       peer time CONSOLE SEED COUNT LEAST MOST LIMIT [CALL]
        peer bytes PROGRAM FROM TO STEP";
 
 type Outcome = Result<(), Box<dyn Error>>;
@@ -72,6 +76,8 @@ fn run(arguments: &[String]) -> Outcome {
         ("list", []) => list(&input()?, io::stdout().lock()),
         ("count", []) => with_job(count),
         ("first", []) => with_job(first),
+        ("shortest", []) => with_job(shortest),
+        ("session", []) => session(),
         ("line", _) => line(&numbers(rest)?),
         ("entry", _) => entry(&numbers(rest)?),
         ("sign", [p, q]) => {
@@ -86,7 +92,11 @@ fn run(arguments: &[String]) -> Outcome {
         ("noise", []) => noise(),
         ("time", [console, seed, count, least, most, limit]) => {
             let scales = [number(least)?, number(most)?];
-            time(console, number(seed)?, number(count)?, scales, number(limit)?)
+            time(console, number(seed)?, number(count)?, scales, number(limit)?, None)
+        }
+        ("time", [console, seed, count, least, most, limit, call]) => {
+            let scales = [number(least)?, number(most)?];
+            time(console, number(seed)?, number(count)?, scales, number(limit)?, Some(call))
         }
         ("bytes", [program, from, to, step]) => {
             check_bytes(program, number(from)?, number(to)?, number(step)?)
@@ -139,7 +149,7 @@ fn noise() -> Outcome {
         x = x.wrapping_mul(1_664_525).wrapping_add(1_013_904_223);
         let byte = (x >> 24) as u8;
         if (x >> 16) % 4 == 0 {
-            byte % 6
+            byte % 8
         } else {
             byte
         }
@@ -164,14 +174,18 @@ fn spoiled_records(random: &[u8]) -> Vec<u8> {
     let n = random.len();
     let square = |n, x, y| encode(RECTANGLE, &[n, x, x + n / 100, y, y + n / 100]);
     let disk = encode(ELLIPSE, &[1, 0, 0, 1, 0, 1, 1]);
-    let job = match n / 3 % 3 {
-        0 => [encode(SCALE, &[0]), disk.clone(), disk],
-        1 => [
+    let (new, all) = (encode(SELECTION, &[0]), encode(SELECTION, &[1]));
+    let job = match n / 3 % 5 {
+        0 => vec![encode(SCALE, &[0]), disk.clone(), disk],
+        1 => vec![
             encode(SCALE, &[1]),
+            all,
             encode(RECTANGLE, &[2, -2, 3, -1, 2]),
             encode(ELLIPSE, &[1, 0, 1, 2, 1, 1, 2]),
         ],
-        _ => [encode(SCALE, &[20]), square(4, 3, -1), square(100, 74, -26)],
+        2 => vec![encode(SCALE, &[20]), all, square(4, 3, -1), square(100, 74, -26)],
+        3 => vec![encode(SCALE, &[2]), encode(SLICE, &[2, 1, 1, 2]), disk],
+        _ => vec![encode(SCALE, &[3]), new, disk, encode(SLICE, &[3, 1, -2, 5])],
     };
     let mut records = job.concat();
     let operators =
@@ -193,6 +207,29 @@ fn spoiled_records(random: &[u8]) -> Vec<u8> {
         }
     }
     records
+}
+
+/// Prints the scale, u and t of a job's shortest pattern.
+fn shortest(job: &Job) -> Outcome {
+    match entry::shortest(job) {
+        None => say("refused 14"),
+        Some((k, u, t)) => {
+            let [u, t] = [u, t].map(|Point { a, b, c, d }| format!("{a} {b} {c} {d}"));
+            say(format!("{k} {u} {t}"))
+        }
+    }
+}
+
+/// Answers lines of calls as a console does, those of a session alone.
+fn session() -> Outcome {
+    let mut session = Session::default();
+    for line in io::stdin().lines() {
+        let line = line?;
+        if !line.is_empty() && !line.starts_with('#') {
+            say(session.answer(&line).unwrap_or_else(|| "bad line".into()))?;
+        }
+    }
+    Ok(())
 }
 
 /// All w that make, with v, the first column of a unitary matrix at scale k.
@@ -253,7 +290,7 @@ fn first(job: &Job) -> Outcome {
     match found {
         Some(v) => {
             let e = v.exponent(job.k);
-            say(format!("{} {} {} {} {} {}", v.a, v.b, v.c, v.d, e, 2 * e))
+            say(format!("{} {} {} {} {} {}", v.a, v.b, v.c, v.d, e, (2 * e).saturating_sub(2)))
         }
         None => say("none"),
     }
@@ -307,8 +344,16 @@ fn hex(bytes: &[u8]) -> String {
 }
 
 /// Times a console's calls on hard random jobs: a first point, the plain
-/// question, and each of the next 100 points. LIMIT is in milliseconds.
-fn time(console: &str, seed: u64, count: usize, scales: [i64; 2], limit: i64) -> Outcome {
+/// question, and each of the next 100 points; or one given call. LIMIT is in
+/// milliseconds.
+fn time(
+    console: &str,
+    seed: u64,
+    count: usize,
+    scales: [i64; 2],
+    limit: i64,
+    call: Option<&str>,
+) -> Outcome {
     let console = Console::new(console)?;
     say(format!("start {} µs; jobs {count}, seed {seed}, k {scales:?}", console.start()))?;
     let mut adversary = Adversary::new(seed, scales);
@@ -321,6 +366,10 @@ fn time(console: &str, seed: u64, count: usize, scales: [i64; 2], limit: i64) ->
     let limit = 1_000 * limit;
     let with =
         |calls: &str| -> Vec<String> { jobs.iter().map(|job| job.clone() + calls).collect() };
+    if let Some(call) = call {
+        let scripts = with(&format!("{call}\n"));
+        return report(call, timing::slowest(&console, &scripts, limit)?, &jobs);
+    }
     for (name, call) in [("first", "hand 4\n"), ("plain", "plain\n")] {
         report(name, timing::slowest(&console, &with(call), limit)?, &jobs)?;
     }

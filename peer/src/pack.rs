@@ -1,9 +1,9 @@
-//! Jobs from words: `scale`, `rectangle`, `ellipse` or `operator`, with the
-//! fields as numbers in their order.
+//! Jobs from words: `scale`, `selection`, `rectangle`, `ellipse`, `slice` or
+//! `operator`, with the fields as numbers in their order.
 
 use std::error::Error;
 
-use crate::job::{encode, fields, ELLIPSE, OPERATOR, RECTANGLE, SCALE};
+use crate::job::{encode, fields, ELLIPSE, OPERATOR, RECTANGLE, SCALE, SELECTION, SLICE};
 
 /// The bytes of a text with one record a line; empty lines and those that
 /// begin with # are skipped. Values out of range are written as they are.
@@ -26,6 +26,8 @@ fn record(name: &str, values: &[&str]) -> Option<Vec<u8>> {
         "rectangle" => RECTANGLE,
         "ellipse" => ELLIPSE,
         "operator" => OPERATOR,
+        "slice" => SLICE,
+        "selection" => SELECTION,
         _ => return None,
     };
     let values: Vec<i64> = values.iter().map(|word| word.parse().ok()).collect::<Option<_>>()?;

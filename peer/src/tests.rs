@@ -3,6 +3,7 @@
 use std::ops::ControlFlow;
 
 use crate::bench;
+use crate::entry;
 use crate::generate::Generator;
 use crate::job::{self, Job, Region, Shape};
 use crate::member::{Membership, Point};
@@ -55,7 +56,7 @@ fn floors() {
 
 #[test]
 fn rectangles() {
-    let job = |k, a, b| Job { k, a, b };
+    let job = |k, a, b| Job { k, all: true, a, b };
     let minus = rectangle(1, [-2, -1], [0, 0]);
     let plus = rectangle(1, [1, 2], [0, 0]);
     assert_eq!(solutions(&job(0, rectangle(12, [16, 17], [0, 0]), minus)), [point(-1, 0, 1, 0)]);
@@ -67,8 +68,35 @@ fn rectangles() {
 #[test]
 fn unit_disks() {
     let disk = Region { n: 1, shape: Shape::Ellipse { cx: 0, cy: 0, p: 1, q: 0, r: 1, s: 1 } };
-    let counts = [0, 1, 2].map(|k| solutions(&Job { k, a: disk, b: disk }).len());
-    assert_eq!(counts, [9, 17, 57]);
+    let counts = |all| [0, 1, 2].map(|k| solutions(&Job { k, all, a: disk, b: disk }).len());
+    assert_eq!(counts(true), [9, 17, 57]);
+    // New ones: what the scale before did not have.
+    assert_eq!(counts(false), [9, 17 - 9, 57 - 17]);
+}
+
+#[test]
+fn shortest_patterns() {
+    let disk = Region { n: 1, shape: Shape::Ellipse { cx: 0, cy: 0, p: 1, q: 0, r: 1, s: 1 } };
+    // x + y at least 1, and twice the squares at most 2.
+    let slice = Region { n: 1, shape: Shape::Slice { zx: 1, zy: 1, w: 1 } };
+    let job = |k, a| Job { k, all: true, a, b: disk };
+    let found = entry::shortest(&job(3, disk));
+    assert_eq!(found, Some((0, point(-1, 0, 0, 0), point(0, 0, 0, 0))));
+    let found = entry::shortest(&job(0, slice));
+    assert_eq!(found, Some((0, point(0, 0, 0, 1), point(0, 0, 0, 0))));
+    assert_eq!(entry::shortest(&job(20, rectangle(1, [2, 9], [-9, 9]))), None);
+}
+
+#[test]
+fn selected_are_those_that_root2_does_not_divide() {
+    let mut generator = Generator::new(2);
+    for _ in 0..200 {
+        let Ok(job) = job::read(&generator.job().1) else { continue };
+        let all = solutions(&Job { all: true, ..job });
+        let is_new = |v: &Point| job.k == 0 || (v.a - v.c) % 2 != 0 || (v.b - v.d) % 2 != 0;
+        let new: Vec<Point> = all.into_iter().filter(is_new).collect();
+        assert_eq!(solutions(&Job { all: false, ..job }), new);
+    }
 }
 
 #[test]
@@ -87,6 +115,7 @@ fn extent(region: &Region) -> i64 {
         Shape::Ellipse { cx, cy, p, q, r, s } => {
             Some(cx.abs().max(cy.abs()) + (s * p.max(r) / (p * r - q * q)).isqrt() + 1)
         }
+        Shape::Slice { .. } => Some(region.n),
     };
     reach.unwrap_or(0) / region.n + 1
 }
@@ -95,7 +124,7 @@ fn extent(region: &Region) -> i64 {
 fn loops_against_a_cube() {
     let mut generator = Generator::new(1);
     let mut compared = 0;
-    while compared < 60 {
+    while compared < 100 {
         let (name, bytes) = generator.job();
         let Ok(job) = job::read(&bytes) else { continue };
         // Each coordinate is within √2^(k+1)·(the extents' sum)/2.
@@ -110,7 +139,8 @@ fn loops_against_a_cube() {
             for b in side.clone() {
                 for c in side.clone() {
                     let line = side.clone().map(|d| point(a, b, c, d));
-                    expected.extend(line.filter(|&v| membership.holds(v)));
+                    let listed = |v: &Point| membership.holds(*v) && membership.selects(*v);
+                    expected.extend(line.filter(listed));
                 }
             }
         }

@@ -104,6 +104,6 @@ module _ (W : World) where
   same-job (soon p) = refl
   same-job (along j w o n h e) = refl
 
-  -- Reading: an accepted scale or region joins the job
+  -- Reading: an accepted scale, selection or region joins the job
   pub whole-job : (cs : List (Call W)) → tallied W (begin W) cs .job ≡ jobOf (after W (fresh W) cs)
   whole-job cs = same-job (all-follow cs (soon none))

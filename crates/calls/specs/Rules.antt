@@ -42,7 +42,7 @@ module _ (W : World) where
   abbrev pub begin : Tally
   begin = record { job = part none; total = 0; end = false }
 
-  -- Reading: an accepted scale or region joins the job
+  -- Reading: an accepted scale, selection or region joins the job
   abbrev pub join : Tally → Reading (Stage Parts Job) → Ruling
   join t (refuse r) = (refusal r, t)
   join t (accept n j) = (passed, record { job = j; total = t .total; end = t .end })

@@ -36,13 +36,13 @@ pub record World : Type 1 where
   -- a reading before scale, A and B are there, and one after
   pub readPart : List ℕ → Parts → Reading (Stage Parts Job)
   pub readOperator : List ℕ → Reading Operator
-  -- the ranks of a job's solutions are those below top that pass; the four numbers of a rank's point
+  -- the ranks of the points that a job lists are those below top that pass; the four numbers of a rank's point
   pub test : Job → ℕ → Bool
   pub top : ℕ
   pub coords : ℕ → List ℤ
   pub image : Job → Operator → Point → Bool
   pub four : (r : ℕ) → length (coords r) ≡ 4
-  -- the turn: scale, region A, region B, then operators
+  -- the turn: operators come after scale, A and B, and nothing else does
   pub turn-part : (b : List ℕ) (p : Parts) → isOperator b ≡ true → (r : ℕ) × (readPart b p ≡ refuse r)
   pub turn-operator : (b : List ℕ) → isOperator b ≡ false → (r : ℕ) × (readOperator b ≡ refuse r)
 
@@ -73,7 +73,7 @@ module _ (W : World) where
   abbrev pub Outcome : Type 0
   Outcome = Answer × Session
 
-  -- all solutions of the job, in point order
+  -- all points that the job lists, in point order
   abbrev pub full : Job → List ℕ
   full j = rest (test j) top 0
 

@@ -57,7 +57,7 @@ module _ (W : World) where
   spaces [] = 0
   spaces (x ∷ xs) = lentSpace (x .0) (x .1) + spaces xs
 
-  -- the full list: all solutions in point order once scale, A and B are there, and none before
+  -- the full list: all points that the job lists, in point order, once scale, A and B are there, and none before
   abbrev pub fullOf : Session W → List ℕ
   fullOf (early p) = []
   fullOf (walking j w o) = full W j

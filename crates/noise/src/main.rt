@@ -18,7 +18,7 @@ fn buffer() -> [u8; 140000]
     [0; 140000]
 }
 
-// Bytes of a linear congruential generator; a quarter of them are from 0 to 5, so that kinds and scales are among them.
+// Bytes of a linear congruential generator; a quarter of them are from 0 to 7, so that kinds and scales are among them.
 fn fill(bytes: &mut [u8]) {
     let mut x: u32 = 1;
     let mut i = 0;
@@ -35,7 +35,7 @@ fn next(x: u32) -> u32 {
 
 fn byte_of(x: u32) -> u8 {
     let b = (x / 16777216) as u8;
-    if x / 65536 % 4 == 0 { b % 6 } else { b }
+    if x / 65536 % 4 == 0 { b % 8 } else { b }
 }
 
 // The n bytes from place n on, for each n.

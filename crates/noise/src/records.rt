@@ -4,8 +4,8 @@ ghost use Prim.Native.Nat.{_+_, _<_, _≤_};
 ghost use lib.ListN.{length};
 use libc::STDOUT_FILENO;
 
-// Three jobs: unit disks; a rectangle and an ellipse at scale 1; a point and a small square at scale 20. Then two operators.
-const RECORDS: [u8; 160] = [
+// Five jobs: unit disks; a rectangle and an ellipse at scale 1, all points; a point and a small square at scale 20, all points; a slice and the unit disk at scale 2; the unit disk and a slice at scale 3, new points by a record. Then two operators.
+const RECORDS: [u8; 234] = [
     1,
     0,
     3,
@@ -51,6 +51,8 @@ const RECORDS: [u8; 160] = [
     0,
     0,
     1,
+    1,
+    6,
     1,
     2,
     2,
@@ -94,6 +96,8 @@ const RECORDS: [u8; 160] = [
     0,
     1,
     20,
+    6,
+    1,
     2,
     4,
     0,
@@ -132,6 +136,76 @@ const RECORDS: [u8; 160] = [
     255,
     255,
     255,
+    1,
+    2,
+    5,
+    2,
+    0,
+    1,
+    0,
+    1,
+    0,
+    2,
+    0,
+    0,
+    0,
+    3,
+    1,
+    0,
+    0,
+    0,
+    0,
+    0,
+    0,
+    0,
+    0,
+    0,
+    1,
+    0,
+    0,
+    0,
+    1,
+    0,
+    1,
+    0,
+    0,
+    0,
+    1,
+    3,
+    6,
+    0,
+    3,
+    1,
+    0,
+    0,
+    0,
+    0,
+    0,
+    0,
+    0,
+    0,
+    0,
+    1,
+    0,
+    0,
+    0,
+    1,
+    0,
+    1,
+    0,
+    0,
+    0,
+    5,
+    3,
+    0,
+    1,
+    0,
+    254,
+    255,
+    5,
+    0,
+    0,
+    0,
     4,
     0,
     0,
@@ -201,21 +275,33 @@ fn buffer() -> [u8; 70000]
 }
 
 fn job_for(n: usize) -> Job
-    ensures { λ r. ⌜ r .start + r .len ≤ 126 ⌝ }
+    ensures { λ r. ⌜ r .start + r .len ≤ 200 ⌝ }
 {
-    let t = n / 3 % 3;
+    let t = n / 3 % 5;
     if t == 0 {
         return Job { start: 0, len: 44 };
     }
     if t == 1 {
-        return Job { start: 44, len: 42 };
+        return Job { start: 44, len: 44 };
     }
-    Job { start: 86, len: 40 }
+    if t == 2 {
+        return Job { start: 88, len: 42 };
+    }
+    if t == 3 {
+        return Job {
+            start: 130,
+            len: 34,
+        };
+    }
+    Job {
+        start: 164,
+        len: 36,
+    }
 }
 
 // A job, then the two operators again and again.
 fn fill(bytes: &mut [u8], h: Job)
-    requires { ⌜ h .start + h .len ≤ 126 ⌝ }
+    requires { ⌜ h .start + h .len ≤ 200 ⌝ }
 {
     let mut i = 0;
     while i < bytes.len() {
@@ -225,13 +311,13 @@ fn fill(bytes: &mut [u8], h: Job)
 }
 
 fn byte(h: Job, i: usize) -> u8
-    requires { ⌜ h .start + h .len ≤ 126 ⌝ }
+    requires { ⌜ h .start + h .len ≤ 200 ⌝ }
 {
     if i < h.len {
         let at = h.start + i;
         return RECORDS[at];
     }
-    let at = 126 + (i - h.len) % 34;
+    let at = 200 + (i - h.len) % 34;
     RECORDS[at]
 }
 

@@ -15,6 +15,7 @@ use line::row::nonneg;
 use region::Ellipse;
 use region::Rectangle;
 use region::Region;
+use region::Slice;
 use ring::RootTwo;
 
 // The end of lo..hi at which u·z is greatest.
@@ -89,6 +90,14 @@ fn over_ellipse(e: Ellipse, u: RootTwo, v: RootTwo) -> RootTwo
     }
 }
 
+// No farther than the disk.
+fn over_slice(s: Slice, u: RootTwo, v: RootTwo) -> RootTwo
+    requires { ⌜ (accepted (R.Slice s) ≡ true) × Direction u v ⌝ }
+    ensures { λ h. ⌜ Reaches (R.Slice s) u v h ⌝ }
+{
+    over_ellipse(s.disk(), u, v)
+}
+
 pub(crate) fn over(region: Region, u: RootTwo, v: RootTwo) -> RootTwo
     requires { ⌜ (accepted region ≡ true) × Direction u v ⌝ }
     ensures { λ h. ⌜ Reaches region u v h ⌝ }
@@ -96,5 +105,6 @@ pub(crate) fn over(region: Region, u: RootTwo, v: RootTwo) -> RootTwo
     match region {
         Region::Rectangle(r) => over_rectangle(r, u, v),
         Region::Ellipse(e) => over_ellipse(e, u, v),
+        Region::Slice(s) => over_slice(s, u, v),
     }
 }

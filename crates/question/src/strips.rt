@@ -6,7 +6,6 @@ ghost use lib.IntN.{natAbs};
 ghost use Rattle.ring.specs.RootTwo.{conj};
 ghost use Rattle.ring.specs.RootTwo.Power.{turn};
 ghost use Rattle.region.specs.Region.{topScale, accepted, acceptedJob};
-ghost use Rattle.region.specs.Over.{scale};
 ghost use Rattle.question.specs.Reach.{Short, Direction};
 ghost use Rattle.question.specs.Strips.{endSize, Ends, Strip-of, Strips-of};
 use crate::exact::conjugate;
@@ -25,15 +24,6 @@ pub(crate) struct Strips {
     pub second: Strip,
 }
 
-fn scale(region: Region) -> u16
-    ensures { λ r. ⌜ r ≡ scale region ⌝ }
-{
-    match region {
-        Region::Rectangle(r) => r.n,
-        Region::Ellipse(e) => e.n,
-    }
-}
-
 fn strip(region: Region, k: u8, u: RootTwo, v: RootTwo) -> Strip
     requires { ⌜ (accepted region ≡ true) × (k ≤ topScale) × Direction u v ⌝ }
     ensures { λ r. ⌜ Strip-of region k u v r ⌝ }
@@ -42,7 +32,7 @@ fn strip(region: Region, k: u8, u: RootTwo, v: RootTwo) -> Strip
     let h = over(region, u, v);
     let l = over(region, opposite(u), opposite(v));
     Strip {
-        m: scale(region) as i64,
+        m: region.scale() as i64,
         lo: opposite(product(l, w)),
         hi: product(h, w),
     }

@@ -12,6 +12,7 @@ pub(crate) fn is_void(region: Region) -> bool
     match region {
         Region::Rectangle(r) => is_reversed(r),
         Region::Ellipse(_) => false,
+        Region::Slice(_) => false,
     }
 }
 

@@ -9,6 +9,7 @@ use lib.ListN.{length, drop, getD, length-drop}
 use borrow.Author.Tests.{ne-eqb}
 use Rattle.region.specs.declared.Rectangle.{Rectangle}
 use Rattle.region.specs.declared.Ellipse.{Ellipse}
+use Rattle.region.specs.declared.Slice.{Slice}
 use Rattle.region.specs.declared.Region.{Region}
 use Rattle.region.specs.declared.Region.the-variants as Shape
 use Rattle.region.specs.declared.Check.the-variants as R
@@ -25,7 +26,7 @@ use Rattle.record.specs.declared.Turn.the-variants as T
 use Rattle.record.specs.declared.Record.{Record}
 use Rattle.record.specs.declared.Record.the-variants as Rec
 use Rattle.record.specs.declared.Refusal.{Refusal}
-use Rattle.record.specs.declared.Refusal.the-variants.{NoKind, UnknownKind, Short, OutOfRange, NotPositive, OddParity, NotSpecial, OutOfTurn, NoJob, Ended}
+use Rattle.record.specs.declared.Refusal.the-variants.{NoKind, UnknownKind, Short, OutOfRange, NotPositive, OddParity, NotSpecial, OutOfTurn, NoJob, Ended, NoDirection}
 use Rattle.record.specs.declared.Admission.{Admission}
 use Rattle.record.specs.declared.Admission.the-variants as A
 use Rattle.record.specs.declared.Reading.{Reading}
@@ -44,6 +45,7 @@ number NotSpecial = 7
 number OutOfTurn = 8
 number NoJob = 9
 number Ended = 10
+number NoDirection = 11
 
 -- ---- kinds, with the length of the body
 abbrev pub pickKind : Bool → Kind → Kind → Kind
@@ -51,7 +53,7 @@ pickKind true x y = x
 pickKind false x y = y
 
 unfoldable pub kindOf : ℕ → Kind
-kindOf b = pickKind (eqb b 1) K.Scale (pickKind (eqb b 2) K.Rectangle (pickKind (eqb b 3) K.Ellipse (pickKind (eqb b 4) K.Operator K.Unknown)))
+kindOf b = pickKind (eqb b 1) K.Scale (pickKind (eqb b 2) K.Rectangle (pickKind (eqb b 3) K.Ellipse (pickKind (eqb b 4) K.Operator (pickKind (eqb b 5) K.Slice (pickKind (eqb b 6) K.Selection K.Unknown)))))
 
 pub kind-1 : (b : ℕ) → b ≡ 1 → kindOf b ≡ K.Scale
 unfolding kindOf
@@ -69,32 +71,52 @@ pub kind-4 : (b : ℕ) → b ≡ 4 → kindOf b ≡ K.Operator
 unfolding kindOf
 kind-4 b e = rw e refl
 
-pub kind-unknown : (b : ℕ) → (b ≡ 1 → ⊥) → (b ≡ 2 → ⊥) → (b ≡ 3 → ⊥) → (b ≡ 4 → ⊥) → kindOf b ≡ K.Unknown
+pub kind-5 : (b : ℕ) → b ≡ 5 → kindOf b ≡ K.Slice
 unfolding kindOf
-kind-unknown b e f g h = rw (ne-eqb b 1 e, ne-eqb b 2 f, ne-eqb b 3 g, ne-eqb b 4 h) refl
+kind-5 b e = rw e refl
+
+pub kind-6 : (b : ℕ) → b ≡ 6 → kindOf b ≡ K.Selection
+unfolding kindOf
+kind-6 b e = rw e refl
+
+pub kind-unknown : (b : ℕ) → (b ≡ 1 → ⊥) → (b ≡ 2 → ⊥) → (b ≡ 3 → ⊥) → (b ≡ 4 → ⊥) → (b ≡ 5 → ⊥) → (b ≡ 6 → ⊥) → kindOf b ≡ K.Unknown
+unfolding kindOf
+kind-unknown b e f g h i l = rw (ne-eqb b 1 e, ne-eqb b 2 f, ne-eqb b 3 g, ne-eqb b 4 h, ne-eqb b 5 i, ne-eqb b 6 l) refl
 
 abbrev pub bodyLength : Kind → ℕ
 bodyLength K.Scale = 1
 bodyLength K.Rectangle = 18
 bodyLength K.Ellipse = 20
+bodyLength K.Slice = 10
 bodyLength K.Operator = 16
+bodyLength K.Selection = 1
 bodyLength K.Unknown = 0
 
--- the turn is: scale, region A, region B, then any number of operators
+-- the turn is: scale, at most one selection, region A, region B, then any number of operators
 abbrev pub isScale : Turn → Bool
 isScale T.Scale = true
+isScale T.Selection = false
 isScale T.First = false
 isScale T.Second = false
 isScale T.Operators = false
 
+abbrev pub isSelection : Turn → Bool
+isSelection T.Scale = false
+isSelection T.Selection = true
+isSelection T.First = false
+isSelection T.Second = false
+isSelection T.Operators = false
+
 abbrev pub isRegion : Turn → Bool
 isRegion T.Scale = false
+isRegion T.Selection = true
 isRegion T.First = true
 isRegion T.Second = true
 isRegion T.Operators = false
 
 abbrev pub isOperators : Turn → Bool
 isOperators T.Scale = false
+isOperators T.Selection = false
 isOperators T.First = false
 isOperators T.Second = false
 isOperators T.Operators = true
@@ -103,7 +125,9 @@ abbrev pub inTurn : Kind → Turn → Bool
 inTurn K.Scale t = isScale t
 inTurn K.Rectangle t = isRegion t
 inTurn K.Ellipse t = isRegion t
+inTurn K.Slice t = isRegion t
 inTurn K.Operator t = isOperators t
+inTurn K.Selection t = isSelection t
 inTurn K.Unknown t = false
 
 -- ---- bodies
@@ -123,6 +147,10 @@ rectangleOf s = record { n = unsignedAt 2 s 0; xl = signedAt 4 s 2; xh = signedA
 unfoldable pub ellipseOf : List ℕ → Ellipse
 ellipseOf s = record { n = unsignedAt 2 s 0; cx = signedAt 4 s 2; cy = signedAt 4 s 6; p = unsignedAt 2 s 10; q = signedAt 2 s 12; r = unsignedAt 2 s 14; s = unsignedAt 4 s 16 }
 
+-- 05: n, zx, zy, w
+unfoldable pub sliceOf : List ℕ → Slice
+sliceOf s = record { n = unsignedAt 2 s 0; zx = signedAt 2 s 2; zy = signedAt 2 s 4; w = signedAt 4 s 6 }
+
 -- 04: G(1) as a, b, c, d, then G(i) as a', b', c', d'
 unfoldable pub operatorOf : List ℕ → Operator
 operatorOf s = record {
@@ -136,11 +164,18 @@ operatorOf s = record {
   di = signedAt 2 s 14;
 }
 
+-- 06: 0 for new points only, 1 for all
+unfoldable pub selectionOf : List ℕ → Reading
+selectionOf s =
+    pick (eqb (unsignedAt 1 s 0) 0) (Accepted (Rec.Selection false) 2)
+    (pick (eqb (unsignedAt 1 s 0) 1) (Accepted (Rec.Selection true) 2) (Refused OutOfRange))
+
 -- what the check of a region, and of an operator, makes of a reading that took n bytes
 abbrev pub regionReading : RegionCheck.Check → Region → ℕ → Reading
 regionReading R.Accepted r n = Accepted (Rec.Region r) n
 regionReading R.OutOfRange r n = Refused OutOfRange
 regionReading R.NotPositive r n = Refused NotPositive
+regionReading R.NoDirection r n = Refused NoDirection
 
 abbrev pub operatorReading : OperatorCheck.Check → Operator → ℕ → Reading
 operatorReading O.Special g n = Accepted (Rec.Operator g) n
@@ -152,15 +187,19 @@ unfoldable pub bodyOf : Kind → List ℕ → Reading
 bodyOf K.Scale s = scaleOf s
 bodyOf K.Rectangle s = let r = Shape.Rectangle (rectangleOf s) in regionReading (Reg.checkOf r) r 19
 bodyOf K.Ellipse s = let r = Shape.Ellipse (ellipseOf s) in regionReading (Reg.checkOf r) r 21
+bodyOf K.Slice s = let r = Shape.Slice (sliceOf s) in regionReading (Reg.checkOf r) r 11
 bodyOf K.Operator s = let g = operatorOf s in operatorReading (Op.checkOf g) g 17
+bodyOf K.Selection s = selectionOf s
 bodyOf K.Unknown s = Refused UnknownKind
 
--- ---- the order of refusals: 1, 2, 8, 3, then those of the body, 4, 5, 6, 7
+-- ---- the order of refusals: 1, 2, 8, 3, then those of the body, 4, 5, 11, 6, 7
 abbrev pub isKnown : Kind → Bool
 isKnown K.Scale = true
 isKnown K.Rectangle = true
 isKnown K.Ellipse = true
+isKnown K.Slice = true
 isKnown K.Operator = true
+isKnown K.Selection = true
 isKnown K.Unknown = false
 
 unfoldable pub admissionOf : (known fits short : Bool) → Admission
@@ -207,6 +246,20 @@ pub scale-out : (s : List ℕ) → leb (getD s 0 0) Reg.topScale ≡ false → s
 unfolding scaleOf
 scale-out s h = rw (one s 0, h) refl
 
+-- the three answers to a selection's byte
+module _ (s : List ℕ) where
+  pub selection-new : getD s 0 0 ≡ 0 → selectionOf s ≡ Accepted (Rec.Selection false) 2
+  unfolding selectionOf
+  selection-new e = rw (one s 0, e) refl
+
+  pub selection-all : getD s 0 0 ≡ 1 → selectionOf s ≡ Accepted (Rec.Selection true) 2
+  unfolding selectionOf
+  selection-all e = rw (one s 0, e) refl
+
+  pub selection-out : (getD s 0 0 ≡ 0 → ⊥) → (getD s 0 0 ≡ 1 → ⊥) → selectionOf s ≡ Refused OutOfRange
+  unfolding selectionOf
+  selection-out f g = rw (one s 0, ne-eqb (getD s 0 0) 0 f, ne-eqb (getD s 0 0) 1 g) refl
+
 module _ (k : Kind) (s : List ℕ) where
   pub body-scale : k ≡ K.Scale → bodyOf k s ≡ scaleOf s
   unfolding bodyOf
@@ -220,9 +273,17 @@ module _ (k : Kind) (s : List ℕ) where
   unfolding bodyOf
   body-ellipse e r f = rw (e, f) refl
 
+  pub body-slice : k ≡ K.Slice → (r : Slice) → r ≡ sliceOf s → bodyOf k s ≡ regionReading (Reg.checkOf (Shape.Slice r)) (Shape.Slice r) 11
+  unfolding bodyOf
+  body-slice e r f = rw (e, f) refl
+
   pub body-operator : k ≡ K.Operator → (g : Operator) → g ≡ operatorOf s → bodyOf k s ≡ operatorReading (Op.checkOf g) g 17
   unfolding bodyOf
   body-operator e g f = rw (e, f) refl
+
+  pub body-selection : k ≡ K.Selection → bodyOf k s ≡ selectionOf s
+  unfolding bodyOf
+  body-selection e = rw e refl
 
   pub body-unknown : k ≡ K.Unknown → bodyOf k s ≡ Refused UnknownKind
   unfolding bodyOf

@@ -4,7 +4,7 @@ use mathlib.Core.Bool.{Bool, true, false}
 use mathlib.Core.List.{List, [], _∷_}
 use Prim.Native.Nat.{ℕ, suc, _≤_}
 use native.Mathlib.Omega.{arith}
-use lib.Dec.{ltb, leb}
+use lib.Dec.{eqb, ltb, leb}
 use lib.ListN.{length}
 use borrow.Author.Tests.{ltb-false}
 use Rattle.region.specs.declared.Region.{Region}
@@ -28,7 +28,7 @@ use Rattle.record.specs.declared.Admission.the-variants as A
 use Rattle.record.specs.declared.Reading.{Reading}
 use Rattle.record.specs.declared.Reading.the-variants.{Accepted, Refused}
 use Rattle.record.specs.Field.{unsignedAt}
-use Rattle.record.specs.Record.{pick, bodyLength, bodyOf, scaleOf, rectangleOf, ellipseOf, operatorOf, regionReading, operatorReading, isKnown, inTurn, admissionOf, admitted, kindReading, kindOf, readingOf, whole-long}
+use Rattle.record.specs.Record.{pick, bodyLength, bodyOf, scaleOf, selectionOf, rectangleOf, ellipseOf, sliceOf, operatorOf, regionReading, operatorReading, isKnown, inTurn, admissionOf, admitted, kindReading, kindOf, readingOf, whole-long}
 
 module _ (x : Record) (n : ℕ) where
   never : {P : Type 0} (f : Refusal) → Refused f ≡ Accepted x n → P
@@ -41,10 +41,15 @@ module _ (x : Record) (n : ℕ) where
   picked true y m f e = same y m e
   picked false y m f e = never f e
 
+  selected : (b c : Bool) → pick b (Accepted (Rec.Selection false) 2) (pick c (Accepted (Rec.Selection true) 2) (Refused OutOfRange)) ≡ Accepted x n → n ≡ 2
+  selected true c e = same _ 2 e
+  selected false c e = picked c (Rec.Selection true) 2 OutOfRange e
+
   region-takes : (c : RegionCheck.Check) (r : Region) (m : ℕ) → regionReading c r m ≡ Accepted x n → n ≡ m
   region-takes R.Accepted r m e = same _ m e
   region-takes R.OutOfRange r m e = never _ e
   region-takes R.NotPositive r m e = never _ e
+  region-takes R.NoDirection r m e = never _ e
 
   operator-takes : (c : OperatorCheck.Check) (g : Operator) (m : ℕ) → operatorReading c g m ≡ Accepted x n → n ≡ m
   operator-takes O.Special g m e = same _ m e
@@ -53,11 +58,13 @@ module _ (x : Record) (n : ℕ) where
   operator-takes O.NotSpecial g m e = never _ e
 
   body-takes : (k : Kind) (s : List ℕ) → bodyOf k s ≡ Accepted x n → n ≡ suc (bodyLength k)
-  unfolding bodyOf scaleOf
+  unfolding bodyOf scaleOf selectionOf
   body-takes K.Scale s e = picked (leb (unsignedAt 1 s 0) Reg.topScale) (Rec.Scale (unsignedAt 1 s 0)) 2 OutOfRange e
   body-takes K.Rectangle s e = region-takes (Reg.checkOf (Shape.Rectangle (rectangleOf s))) (Shape.Rectangle (rectangleOf s)) 19 e
   body-takes K.Ellipse s e = region-takes (Reg.checkOf (Shape.Ellipse (ellipseOf s))) (Shape.Ellipse (ellipseOf s)) 21 e
+  body-takes K.Slice s e = region-takes (Reg.checkOf (Shape.Slice (sliceOf s))) (Shape.Slice (sliceOf s)) 11 e
   body-takes K.Operator s e = operator-takes (Op.checkOf (operatorOf s)) (operatorOf s) 17 e
+  body-takes K.Selection s e = selected (eqb (unsignedAt 1 s 0) 0) (eqb (unsignedAt 1 s 0) 1) e
   body-takes K.Unknown s e = never _ e
 
   admitted-whole : (a : Admission) (r : Reading) → admitted a r ≡ Accepted x n → (a ≡ A.Whole) × (r ≡ Accepted x n)

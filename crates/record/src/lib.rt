@@ -6,11 +6,12 @@ ghost use lib.ListN.{length};
 ghost use Rattle.region.specs.Region.{checkOf as regionCheck};
 ghost use Rattle.operator.specs.Operator.{checkOf as operatorCheck};
 ghost use Rattle.record.specs.Record.{number as numberOf};
-ghost use Rattle.record.specs.Record.{Reads, admissionOf, kindOf, isKnown, inTurn, isScale, isRegion, isOperators, bodyLength, bodyOf, scaleOf, rectangleOf, ellipseOf, operatorOf, regionReading, operatorReading};
+ghost use Rattle.record.specs.Record.{Reads, admissionOf, kindOf, isKnown, inTurn, isScale, isSelection, isRegion, isOperators, bodyLength, bodyOf, scaleOf, selectionOf, rectangleOf, ellipseOf, sliceOf, operatorOf, regionReading, operatorReading};
 use operator::Operator;
 use region::Ellipse;
 use region::Rectangle;
 use region::Region;
+use region::Slice;
 
 mod field;
 
@@ -19,13 +20,16 @@ pub enum Kind {
     Scale,
     Rectangle,
     Ellipse,
+    Slice,
     Operator,
+    Selection,
     Unknown,
 }
 
-// What a job waits for.
+// What a job waits for: after the scale it is the selection or region A, after the selection only A.
 pub enum Turn {
     Scale,
+    Selection,
     First,
     Second,
     Operators,
@@ -33,6 +37,8 @@ pub enum Turn {
 
 pub enum Record {
     Scale(u8),
+    // Whether all solutions are listed, or only those that are new at the scale.
+    Selection(bool),
     Region(Region),
     Operator(Operator),
 }
@@ -49,6 +55,7 @@ pub enum Refusal {
     OutOfTurn,
     NoJob,
     Ended,
+    NoDirection,
 }
 
 impl Refusal {
@@ -66,6 +73,7 @@ impl Refusal {
             Refusal::OutOfTurn => 8,
             Refusal::NoJob => 9,
             Refusal::Ended => 10,
+            Refusal::NoDirection => 11,
         }
     }
 }
@@ -121,6 +129,8 @@ fn kind_of(b: u8) -> Kind
         2 => Kind::Rectangle,
         3 => Kind::Ellipse,
         4 => Kind::Operator,
+        5 => Kind::Slice,
+        6 => Kind::Selection,
         _ => Kind::Unknown,
     }
 }
@@ -132,7 +142,9 @@ fn is_known(kind: Kind) -> bool
         Kind::Scale => true,
         Kind::Rectangle => true,
         Kind::Ellipse => true,
+        Kind::Slice => true,
         Kind::Operator => true,
+        Kind::Selection => true,
         Kind::Unknown => false,
     }
 }
@@ -145,7 +157,9 @@ fn in_turn(kind: Kind, turn: Turn) -> bool
         Kind::Scale => is_scale(turn),
         Kind::Rectangle => is_region(turn),
         Kind::Ellipse => is_region(turn),
+        Kind::Slice => is_region(turn),
         Kind::Operator => is_operators(turn),
+        Kind::Selection => is_selection(turn),
         Kind::Unknown => false,
     }
 }
@@ -155,6 +169,19 @@ fn is_scale(turn: Turn) -> bool
 {
     match turn {
         Turn::Scale => true,
+        Turn::Selection => false,
+        Turn::First => false,
+        Turn::Second => false,
+        Turn::Operators => false,
+    }
+}
+
+fn is_selection(turn: Turn) -> bool
+    ensures { λ r. ⌜ r ≡ isSelection turn ⌝ }
+{
+    match turn {
+        Turn::Scale => false,
+        Turn::Selection => true,
         Turn::First => false,
         Turn::Second => false,
         Turn::Operators => false,
@@ -166,6 +193,7 @@ fn is_region(turn: Turn) -> bool
 {
     match turn {
         Turn::Scale => false,
+        Turn::Selection => true,
         Turn::First => true,
         Turn::Second => true,
         Turn::Operators => false,
@@ -177,6 +205,7 @@ fn is_operators(turn: Turn) -> bool
 {
     match turn {
         Turn::Scale => false,
+        Turn::Selection => false,
         Turn::First => false,
         Turn::Second => false,
         Turn::Operators => true,
@@ -190,7 +219,9 @@ fn body_length(kind: Kind) -> usize
         Kind::Scale => 1,
         Kind::Rectangle => 18,
         Kind::Ellipse => 20,
+        Kind::Slice => 10,
         Kind::Operator => 16,
+        Kind::Selection => 1,
         Kind::Unknown => 0,
     }
 }
@@ -204,7 +235,9 @@ fn body(kind: Kind, s: &[u8]) -> Reading
         Kind::Scale => scale_at(s),
         Kind::Rectangle => checked_region(Region::Rectangle(rectangle_at(s)), 19),
         Kind::Ellipse => checked_region(Region::Ellipse(ellipse_at(s)), 21),
+        Kind::Slice => checked_region(Region::Slice(slice_at(s)), 11),
         Kind::Operator => checked_operator(operator_at(s), 17),
+        Kind::Selection => selection_at(s),
         Kind::Unknown => Reading::Refused(Refusal::UnknownKind),
     }
 }
@@ -218,6 +251,17 @@ fn scale_at(s: &[u8]) -> Reading
         Reading::Accepted(Record::Scale(k), 2)
     } else {
         Reading::Refused(Refusal::OutOfRange)
+    }
+}
+
+fn selection_at(s: &[u8]) -> Reading
+    requires { ⌜ 1 ≤ length (now s) ⌝ }
+    ensures { λ r. ⌜ r ≡ selectionOf (now (s .entry)) ⌝ }
+{
+    match s[0] {
+        0 => Reading::Accepted(Record::Selection(false), 2),
+        1 => Reading::Accepted(Record::Selection(true), 2),
+        _ => Reading::Refused(Refusal::OutOfRange),
     }
 }
 
@@ -249,6 +293,18 @@ fn ellipse_at(s: &[u8]) -> Ellipse
     }
 }
 
+fn slice_at(s: &[u8]) -> Slice
+    requires { ⌜ 10 ≤ length (now s) ⌝ }
+    ensures { λ r. ⌜ r ≡ sliceOf (now (s .entry)) ⌝ }
+{
+    Slice {
+        n: field::u16_at(s, 0),
+        zx: field::i16_at(s, 2),
+        zy: field::i16_at(s, 4),
+        w: field::i32_at(s, 6),
+    }
+}
+
 fn operator_at(s: &[u8]) -> Operator
     requires { ⌜ 16 ≤ length (now s) ⌝ }
     ensures { λ r. ⌜ r ≡ operatorOf (now (s .entry)) ⌝ }
@@ -273,6 +329,7 @@ fn checked_region(r: Region, taken: usize) -> Reading
         region::Check::Accepted => Reading::Accepted(Record::Region(r), taken),
         region::Check::OutOfRange => Reading::Refused(Refusal::OutOfRange),
         region::Check::NotPositive => Reading::Refused(Refusal::NotPositive),
+        region::Check::NoDirection => Reading::Refused(Refusal::NoDirection),
     }
 }
 

@@ -137,12 +137,12 @@ abbrev flatBox : ℕ → ℤ → ℤ → Region
 flatBox n l h = R.Rectangle (record { n = n; xl = l; xh = h; yl = pos 0; yh = pos 0 })
 
 abbrev rectangles : ℕ → ℕ → ℤ → ℤ → ℤ → ℤ → Job
-rectangles k n l h l′ h′ = record { k = k; a = flatBox n l h; b = flatBox 1 l′ h′ }
+rectangles k n l h l′ h′ = record { k = k; all = true; a = flatBox n l h; b = flatBox 1 l′ h′ }
 
 abbrev unitDisks : Job
 unitDisks =
     let disk = R.Ellipse (record { n = 1; cx = pos 0; cy = pos 0; p = 1; q = pos 0; r = 1; s = 1 }) in
-    record { k = 0; a = disk; b = disk }
+    record { k = 0; all = true; a = disk; b = disk }
 
 -- the eight points ±1, ±ω, ±ω², ±ω³
 abbrev units : List Point

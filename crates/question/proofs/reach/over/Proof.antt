@@ -23,6 +23,14 @@ over-ellipse-requires c κs =
     let s = c .before .before .before in
     (subst (λ (r : Region). accepted r ≡ true) (c .before .region2 .given .1) (s .pre .0), s .pre .1)
 
+enum-known-region-3 : tie.Need-enum-known-region-3
+enum-known-region-3 c = search needs
+
+over-slice-requires : tie.Need-over-slice-requires
+over-slice-requires c κs =
+    let s = c .before .before .before in
+    (subst (λ (r : Region). accepted r ≡ true) (c .before .region3 .given .1) (s .pre .0), s .pre .1)
+
 returns : tie.Need-returns
 returns c =
     let s = c .before .before .before .before in
@@ -33,6 +41,11 @@ returns-2 c =
     let s = c .before .before .before .before in
     subst (λ (r : Region). Reaches r (s .args .u) (s .args .v) (c .over-ellipse .result)) (sym (c .before .before .region2 .given .1)) (c .over-ellipse .ensures)
 
+returns-3 : tie.Need-returns-3
+returns-3 c =
+    let s = c .before .before .before .before in
+    subst (λ (r : Region). Reaches r (s .args .u) (s .args .v) (c .over-slice .result)) (sym (c .before .before .region3 .given .1)) (c .over-slice .ensures)
+
 pub over-spec : {M : Type 1} → statement M
 over-spec =
     tie.close
@@ -41,5 +54,8 @@ over-spec =
     over-rectangle-requires
     enum-known-region-2
     over-ellipse-requires
+    enum-known-region-3
+    over-slice-requires
     returns
-    returns-2)
+    returns-2
+    returns-3)

@@ -1,0 +1,107 @@
+-- How far a slice reaches: no farther than its disk, and no farther than a sum of the disk's cut and a multiple of the half plane says. Both are cuts, and a
+-- cut times a natural number and the sum of two cuts are cuts, so that no multiple needs a proof.
+use mathlib.Core.Path.{_≡_, refl, sym, _∙_, subst}
+use mathlib.Core.List.{[], _∷_}
+use mathlib.Core.Bool.{true}
+use Prim.Native.Nat.{ℕ, _+_, _*_, _^_, _≤_, zero-le}
+use native.Mathlib.Nat.{le-refl}
+use native.Mathlib.Omega.{arith}
+use lib.Dec.{le→leb}
+use lib.IntN.{ℤ, pos, negsuc, negℤ, natAbs, _+ℤ_, _-ℤ_, _*ℤ_}
+use lib.Signed.{yes-nonNeg, pos-natAbs}
+use borrow.Author.Tests.{leb-true, le-leb}
+use Rattle.integers.specs.Difference.{by⊖, zz, _≼_, _≺_}
+use Rattle.integers.specs.Ring.{poly, by-ring}
+use Rattle.integers.specs.RingZ.{polyZ}
+use Rattle.integers.specs.RingZ as Z
+use Rattle.ring.specs.declared.RootTwo.{RootTwo}
+use Rattle.ring.specs.RootTwo.{_⊞_, _⊟_, _⊠_, num, ring√, num-+, num-*, num-neg}
+use Rattle.ring.specs.RootTwo.Order.{Nn, _⊑_, nn-by, nn-+, nn-*, nn-num, nn-cancel, num-⊑}
+use Rattle.region.specs.declared.Slice.{Slice}
+use Rattle.region.specs.declared.Region.the-variants as R
+use Rattle.region.specs.declared.half.Fraction.{Fraction}
+use Rattle.region.specs.Region.{discriminant, disk}
+use Rattle.region.specs.Membership.{holds-in, holds-disk}
+use Rattle.region.specs.Reach.{width2}
+use Rattle.region.specs.Least.{ceilDiv, ceil-div-≤}
+use Rattle.region.specs.Over.{Over, over-ellipse}
+
+-- what holds of the disk
+pub over-disk : (s : Slice) (u v h : ℤ) → Over (R.Ellipse (disk s)) u v h → Over (R.Slice s) u v h
+over-disk s u v h o w X Y hw t = o w X Y hw (holds-disk s w X Y t)
+
+-- q (u, v) + p z reaches m, so that q times the reach of (u, v) is at most m − p w
+pub over-half : (s : Slice) (u v h m : ℤ) (p q : ℕ) → 1 ≤ q → m -ℤ pos p *ℤ s .w ≼ pos q *ℤ h → Over (R.Slice s) (pos q *ℤ u +ℤ pos p *ℤ s .zx) (pos q *ℤ v +ℤ pos p *ℤ s .zy) m → Over (R.Slice s) u v h
+over-half s u v h m p q one l o w X Y hw t =
+    let n = num (pos (s .n)) in
+    let P = num (pos p) in
+    let Q = num (pos q) in
+    let above = simp (num-*, num-+, num-neg) at (num-⊑ l) in
+    let far = simp (num-*, num-+) at (o w X Y hw t) in
+    nn-cancel Q _ (num-⊑ (record { le = le→leb 1 q one }))
+    (nn-by (sum Q P (num u) (num v) (num (s .zx)) (num (s .zy)) (num (s .w)) (num m) (num h) w (n ⊠ X) (n ⊠ Y))
+    (nn-+ (nn-+ (nn-* above hw) far) (nn-* (nn-num {k = pos p} (record { le = le→leb 0 p zero-le })) (holds-in (R.Slice s) w X Y t .beyond))))
+  where
+    sum : (Q P u v a b c m h w x y : RootTwo)
+        → (Q ⊠ h ⊟ (m ⊟ P ⊠ c)) ⊠ w ⊞ (m ⊠ w ⊟ ((Q ⊠ u ⊞ P ⊠ a) ⊠ x ⊞ (Q ⊠ v ⊞ P ⊠ b) ⊠ y)) ⊞ P ⊠ (a ⊠ x ⊞ b ⊠ y ⊟ c ⊠ w)
+        ≡ Q ⊠ (h ⊠ w ⊟ (u ⊠ x ⊞ v ⊠ y))
+    sum Q P u v a b c m h w x y = by-ring ring√ (Q ∷ P ∷ u ∷ v ∷ a ∷ b ∷ c ∷ m ∷ h ∷ w ∷ x ∷ y ∷ []) (search poly depth 60 fits 5000) refl
+
+-- ---- the disk's reach in a long direction: n √(a² + b²), rounded up
+pub record Length (n : ℕ) (a b : ℤ) (m : ℕ) : Type 0 where
+  pub enough : n * n * (natAbs a * natAbs a + natAbs b * natAbs b) ≤ m * m
+  pub size : m ≤ 2 ^ 30
+
+pub over-length : (s : Slice) (a b : ℤ) (m : ℕ) → Length (s .n) a b m → Over (R.Slice s) a b (pos m)
+over-length s a b m l =
+    over-disk s a b (pos m)
+    (subst (λ (h : ℤ). Over (R.Ellipse (disk s)) a b h) (centre a b (pos m))
+    (over-ellipse (disk s) a b (pos m) (record { le = tt }) (record { le = tt }) (record { le = le→leb 0 m zero-le }) (rw (width a b, square a, square b) enough)))
+  where
+    centre : (a b m : ℤ) → a *ℤ pos 0 +ℤ b *ℤ pos 0 +ℤ m ≡ m
+    centre a b m = Z.by-ring (a ∷ b ∷ m ∷ []) (search polyZ depth 30) refl
+
+    width : (a b : ℤ) → width2 (disk s) a b ≡ a *ℤ a +ℤ b *ℤ b
+    width a b = Z.by-ring (a ∷ b ∷ []) (search polyZ depth 30) refl
+
+    square : (a : ℤ) → a *ℤ a ≡ pos (natAbs a * natAbs a)
+    square (pos n) = refl
+    square (negsuc n) = refl
+
+    enough : pos (s .n * s .n) *ℤ pos (natAbs a * natAbs a + natAbs b * natAbs b) ≼ pos m *ℤ pos m *ℤ discriminant (disk s)
+    enough = record { le = le→leb (s .n * s .n * (natAbs a * natAbs a + natAbs b * natAbs b)) (m * m * 1) (omega (arith, l .enough)) }
+
+-- t/q, rounded up, and not below −2³¹
+pub record Quotient (t : ℤ) (q : ℕ) (h : ℤ) : Type 0 where
+  pub above : t ≼ pos q *ℤ h
+  pub low : negsuc 2147483647 ≼ h
+
+pub quotient-low : (t : ℤ) (q : ℕ) → t +ℤ pos 2147483648 *ℤ pos q ≺ pos 0 → Quotient t q (negsuc 2147483647)
+quotient-low t q h = record { above = go t q h; low = record { le = tt } }
+  where
+    go : (t : ℤ) (q : ℕ) → t +ℤ pos 2147483648 *ℤ pos q ≺ pos 0 → t ≼ pos q *ℤ negsuc 2147483647
+    go = by⊖ _ λ p n q. simp zz (omega arith)
+
+pub quotient-high : (t : ℤ) (q : ℕ) → 1 ≤ q → pos 0 ≼ t +ℤ pos 2147483648 *ℤ pos q → Quotient t q (pos (ceilDiv (natAbs (t +ℤ pos 2147483648 *ℤ pos q)) q) -ℤ pos 2147483648)
+quotient-high t q one h =
+    let s = natAbs (t +ℤ pos 2147483648 *ℤ pos q) in
+    let c = ceilDiv s q in
+    record { above = go s c (pos-natAbs _ (yes-nonNeg h)) (leb-true s (c * q) (sym (ceil-div-≤ s q c one) ∙ le-leb c c (le-refl c))); low = below (pos c) (pos 2147483648) (record { le = le→leb 0 c zero-le }) }
+  where
+    turned : (t k h : ℤ) (s : ℕ) → pos s ≡ t +ℤ k → pos s ≼ k +ℤ h → t ≼ h
+    turned = by⊖ _ λ a a′. by⊖ _ λ b b′. by⊖ _ λ c c′ s. simp zz (omega arith)
+
+    spread : (q c k : ℤ) → k *ℤ q +ℤ q *ℤ (c -ℤ k) ≡ c *ℤ q
+    spread q c k = Z.by-ring (q ∷ c ∷ k ∷ []) (search polyZ depth 30) refl
+
+    go : (s c : ℕ) → pos s ≡ t +ℤ pos 2147483648 *ℤ pos q → s ≤ c * q → t ≼ pos q *ℤ (pos c -ℤ pos 2147483648)
+    go s c e l = turned t (pos 2147483648 *ℤ pos q) _ s e (rw (spread (pos q) (pos c) (pos 2147483648)) (record { le = le→leb s (c * q) l }))
+
+    below : (c k : ℤ) → pos 0 ≼ c → negℤ k ≼ c -ℤ k
+    below = by⊖ _ λ a a′. by⊖ _ λ b b′. simp zz (omega arith)
+
+-- a guess: any numbers of these sizes will do
+pub record Fraction-size (f : Fraction) : Type 0 where
+  pub p-size : f .p ≤ 2 ^ 41
+  pub q-low : 1 ≤ f .q
+  pub q-high : f .q ≤ 256
