@@ -16,9 +16,13 @@ use Rattle.record.specs.Taken.{reading-takes}
 use Rattle.calls.specs.Session.{reading, refused, taken, handed, done, says, early, walking, step, joined, remembered}
 use Rattle.calls.specs.Session as Model
 use Rattle.ranks.specs.Rest.{Place}
+use mathlib.Core.Bool.{Bool}
+use Rattle.region.specs.declared.Region.{Region}
 use Rattle.region.specs.declared.Job.{Job}
 use Rattle.operator.specs.declared.Operator.{Operator}
-use Rattle.session.specs.World.{world, Parts, nothing, scaled, first, turnAt, place, note, partReading, operatorReading}
+use Rattle.session.specs.declared.Parts.{Parts}
+use Rattle.session.specs.declared.Parts.the-variants.{Nothing, Scaled, Selected, First}
+use Rattle.session.specs.World.{world, turnAt, placeScale, placeSelection, placeRegion, place, note, partReading, operatorReading}
 use Rattle.session.specs.Session.{meaning, fresh}
 use Rattle.input.specs.Load.{Loaded, tooLong, finished, onward, records, most, loadOf}
 
@@ -35,19 +39,33 @@ module _ (n : ℕ) (m : Model.Session world) where
   same : (k : ℕ) (t : Model.Session world) → _≡_ {A = Model.Outcome world} (taken k, t) (taken n, m) → n ≡ k
   same k t e = let a : _≡_ {A = Model.Answer world} (taken k) (taken n) = ap (λ (o : Model.Outcome world). o .0) e in cc
 
+  scale-takes : (p : Parts) (h k : ℕ) → joined world p (placeScale p h k) ≡ (taken n, m) → n ≡ k
+  scale-takes Nothing h k e = same k _ e
+  scale-takes (Scaled i) h k e = never _ _ e
+  scale-takes (Selected i all) h k e = never _ _ e
+  scale-takes (First i all a) h k e = never _ _ e
+
+  selection-takes : (p : Parts) (b : Bool) (k : ℕ) → joined world p (placeSelection p b k) ≡ (taken n, m) → n ≡ k
+  selection-takes Nothing b k e = never _ _ e
+  selection-takes (Scaled i) b k e = same k _ e
+  selection-takes (Selected i all) b k e = never _ _ e
+  selection-takes (First i all a) b k e = never _ _ e
+
+  region-takes : (p : Parts) (b : Region) (k : ℕ) → joined world p (placeRegion p b k) ≡ (taken n, m) → n ≡ k
+  region-takes Nothing b k e = never _ _ e
+  region-takes (Scaled i) b k e = same k _ e
+  region-takes (Selected i all) b k e = same k _ e
+  region-takes (First i all a) b k e = same k _ e
+
   place-takes : (p : Parts) (x : Record) (k : ℕ) → joined world p (place p x k) ≡ (taken n, m) → n ≡ k
-  place-takes nothing (R.Scale h) k e = same k _ e
-  place-takes nothing (R.Region a) k e = never _ _ e
-  place-takes nothing (R.Operator g) k e = never _ _ e
-  place-takes (scaled h) (R.Scale i) k e = never _ _ e
-  place-takes (scaled h) (R.Region a) k e = same k _ e
-  place-takes (scaled h) (R.Operator g) k e = never _ _ e
-  place-takes (first h a) (R.Scale i) k e = never _ _ e
-  place-takes (first h a) (R.Region b) k e = same k _ e
-  place-takes (first h a) (R.Operator g) k e = never _ _ e
+  place-takes p (R.Scale h) k e = scale-takes p h k e
+  place-takes p (R.Selection b) k e = selection-takes p b k e
+  place-takes p (R.Region b) k e = region-takes p b k e
+  place-takes p (R.Operator g) k e = never _ _ e
 
   note-takes : (j : Job) (w : Place) (o : Operator) (x : Record) (k : ℕ) → remembered world j w o (note x k) ≡ (taken n, m) → n ≡ k
   note-takes j w o (R.Scale h) k e = never _ _ e
+  note-takes j w o (R.Selection b) k e = never _ _ e
   note-takes j w o (R.Region a) k e = never _ _ e
   note-takes j w o (R.Operator g) k e = same k _ e
 

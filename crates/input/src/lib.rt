@@ -62,9 +62,7 @@ fn finished(s: Session, at: usize) -> Input
 {
     let g = s.stage;
     match g {
-        Stage::Fresh => Input::Refused(Refusal::NoJob, at),
-        Stage::Scaled(_) => Input::Refused(Refusal::NoJob, at),
-        Stage::First(_, _) => Input::Refused(Refusal::NoJob, at),
+        Stage::Early(_) => Input::Refused(Refusal::NoJob, at),
         Stage::Walking(_) => Input::Job(s),
     }
 }

@@ -11,7 +11,7 @@ use Rattle.ranks.specs.Rest.{Place, at, ended, isNil, placeOf, rest, leftAt, le
 use Rattle.ranks.specs.Rank.{top}
 use Rattle.ranks.specs.Handed.{flat, put, take-put}
 use Rattle.cuts.specs.Digits.{span}
-use Rattle.walk.specs.Walk.{solvesAt, numbersOf}
+use Rattle.walk.specs.Walk.{listedAt, numbersOf}
 use Rattle.calls.specs.Session.{handOut, refused, taken, handed, done, says, early, walking, step}
 use Rattle.calls.specs.Session as Model
 use Rattle.session.specs.World.{world}
@@ -45,7 +45,7 @@ module _ (old new : List ℤ) (n : ℕ) (e : Bool) (t : Model.Session world) whe
   page-handed (early p) h = clash refl refl (sym (first h))
   page-handed (walking j ended o) h = clash refl refl (sym (first h))
   page-handed (walking j (at p) o) h =
-      let left = rest (solvesAt j) (top span) p in
+      let left = rest (listedAt j) (top span) p in
       let k = length old / 4 in
       let ps = take k left in
       let a : handed n e new ≡ handed (length ps) (isNil (drop k left)) (put numbersOf 4 ps old) = first h in
@@ -77,7 +77,7 @@ module _ (old : List ℤ) (a : Model.Answer world) (t : Model.Session world) (no
 -- ---- what is left after a page, where more is to come
 abbrev pub leftOf : Model.Session world → ℕ
 leftOf (early p) = 0
-leftOf (walking j w o) = length (leftAt (solvesAt j) (top span) w)
+leftOf (walking j w o) = length (leftAt (listedAt j) (top span) w)
 
 shorter : (k : ℕ) (l : List ℕ) → 1 ≤ k → not (isNil (drop k l)) ≡ true → length (drop k l) < length l
 shorter k l h e = go (drop k l) (length-drop k l) e
@@ -90,4 +90,4 @@ pub page-less : (room : ℕ) → 1 ≤ room → (m : Model.Session world) → pa
 unfolding pageOf
 page-less room h (early p) e = absurd (let y : _≡_ {A = ℕ} 0 1 = cc in omega arith)
 page-less room h (walking j ended o) e = absurd (let y : _≡_ {A = ℕ} 0 1 = cc in omega arith)
-page-less room h (walking j (at p) o) e = rw (left-place (solvesAt j) (top span) room p) (shorter room (rest (solvesAt j) (top span) p) h e)
+page-less room h (walking j (at p) o) e = rw (left-place (listedAt j) (top span) room p) (shorter room (rest (listedAt j) (top span) p) h e)

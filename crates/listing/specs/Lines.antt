@@ -12,7 +12,7 @@ use Rattle.ranks.specs.Rest.{at, ended, isNil, placeOf, rest}
 use Rattle.ranks.specs.Rank.{top}
 use Rattle.ranks.specs.Handed.{flat}
 use Rattle.cuts.specs.Digits.{span}
-use Rattle.walk.specs.Walk.{solvesAt, numbersOf}
+use Rattle.walk.specs.Walk.{listedAt, numbersOf}
 use Rattle.calls.specs.Session.{early, walking}
 use Rattle.calls.specs.Session as Model
 use Rattle.session.specs.World.{world}
@@ -67,7 +67,7 @@ unfoldable pub pageOf : ℕ → Model.Session world → Paging
 pageOf room (early p) = nothing (early p)
 pageOf room (walking j ended o) = nothing (walking j ended o)
 pageOf room (walking j (at p) o) =
-    let left = rest (solvesAt j) (top span) p in
+    let left = rest (listedAt j) (top span) p in
     record {
       session = walking j (placeOf (drop room left)) o;
       count = length (take room left);

@@ -90,9 +90,7 @@ fn scale(s: Session) -> u8
 {
     let g = s.stage;
     match g {
-        Stage::Fresh => 0,
-        Stage::Scaled(_) => 0,
-        Stage::First(_, _) => 0,
+        Stage::Early(_) => 0,
         Stage::Walking(c) => c.job.k,
     }
 }

@@ -11,7 +11,7 @@ use lib.ListN.{length, drop}
 use Rattle.ranks.specs.Rest.{at, ended, rest, left-place}
 use Rattle.ranks.specs.Rank.{top}
 use Rattle.cuts.specs.Digits.{span}
-use Rattle.walk.specs.Walk.{solvesAt, full}
+use Rattle.walk.specs.Walk.{listedAt, full}
 use Rattle.walk.specs.Count.{full-fewer}
 use Rattle.calls.specs.Session.{early, walking}
 use Rattle.input.specs.Load.{Loaded, ready, refused, tooLong, loadOf}
@@ -30,7 +30,7 @@ part-goes n (last t) h = record { joined = append-nil _; small = tt }
 part-goes n done h = record { joined = refl; small = tt }
 part-goes n (list (early p) t) h = record { joined = ap endLine (kept-same (t + 0) h); small = tt }
 part-goes n (list (walking j ended o) t) h = record { joined = ap endLine (kept-same (t + 0) h); small = tt }
-part-goes n (list (walking j (at p) o) t) h = page-goes j p o t (roomIn n) h (drop (roomIn n) (rest (solvesAt j) (top span) p)) refl (left-place (solvesAt j) (top span) (roomIn n) p)
+part-goes n (list (walking j (at p) o) t) h = page-goes j p o t (roomIn n) h (drop (roomIn n) (rest (listedAt j) (top span) p)) refl (left-place (listedAt j) (top span) (roomIn n) p)
 
 piece-goes : (n : ℕ) (s : State) → Small s → Goes s (pieceOf n s)
 unfolding pieceOf
@@ -78,7 +78,7 @@ part-less n (list (early p) t) h e = omega arith
 part-less n (list (walking j ended o) t) h e = omega arith
 part-less n (list (walking j (at p) o) t) h e =
     let some : 1 ≤ n / 126 = omega arith in
-    page-less j p o t (roomIn n) (le-min (omega arith) some) (drop (roomIn n) (rest (solvesAt j) (top span) p)) refl (left-place (solvesAt j) (top span) (roomIn n) p)
+    page-less j p o t (roomIn n) (le-min (omega arith) some) (drop (roomIn n) (rest (listedAt j) (top span) p)) refl (left-place (listedAt j) (top span) (roomIn n) p)
 
 pub piece-less : (n : ℕ) (s : State) → 126 ≤ n → isDone s ≡ false → most (pieceOf n s .next) < most s
 unfolding pieceOf

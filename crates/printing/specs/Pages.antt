@@ -12,7 +12,7 @@ use Rattle.ranks.specs.Rank.{top}
 use Rattle.cuts.specs.Digits.{span}
 use Rattle.region.specs.declared.Job.{Job}
 use Rattle.operator.specs.declared.Operator.{Operator}
-use Rattle.walk.specs.Walk.{solvesAt}
+use Rattle.walk.specs.Walk.{listedAt}
 use Rattle.calls.specs.Session.{walking}
 use Rattle.words.specs.Meaning.{sizeOf, wrapped}
 use Rattle.listing.specs.Lines.{linesOf, endLine}
@@ -81,7 +81,7 @@ module _ (k t room : ℕ) (l : List ℕ) (h : t + length l < 2 ^ 128) where
 -- ---- each piece and what is left after it
 module _ (j : Job) (p : ℕ) (o : Operator) (t room : ℕ) where
   abbrev pub here : List ℕ
-  here = rest (solvesAt j) (top span) p
+  here = rest (listedAt j) (top span) p
 
   abbrev pub page : List ℕ → Part
   page d = record {
@@ -89,16 +89,16 @@ module _ (j : Job) (p : ℕ) (o : Operator) (t room : ℕ) where
     next = cond (not (isNil d)) (list (walking j (placeOf d) o) (kept (t + length (take room here)))) (last (kept (t + length (take room here))));
   }
 
-  pub page-goes : t + length here < 2 ^ 128 → (d : List ℕ) → drop room here ≡ d → leftAt (solvesAt j) (top span) (placeOf d) ≡ d → Goes (list (walking j (at p) o) t) (page d)
+  pub page-goes : t + length here < 2 ^ 128 → (d : List ℕ) → drop room here ≡ d → leftAt (listedAt j) (top span) (placeOf d) ≡ d → Goes (list (walking j (at p) o) t) (page d)
   page-goes h [] e f = record { joined = page-last (j .k) t room here h e; small = tt }
   page-goes h (x ∷ d) e f =
       let n = kept (t + length (take room here)) in
-      let q : drop room here ≡ leftAt (solvesAt j) (top span) (placeOf (x ∷ d)) = e ∙ sym f in
+      let q : drop room here ≡ leftAt (listedAt j) (top span) (placeOf (x ∷ d)) = e ∙ sym f in
       record {
         joined = subst (λ (z : List ℕ). listLines (j .k) (take room here) ++ (listLines (j .k) z ++ endLine (n + length z)) ≡ listLines (j .k) here ++ endLine (t + length here)) q (page-more (j .k) t room here h);
         small = subst (λ (z : List ℕ). n + length z < 2 ^ 128) q (page-small (j .k) t room here h);
       }
 
-  pub page-less : 1 ≤ room → (d : List ℕ) → drop room here ≡ d → leftAt (solvesAt j) (top span) (placeOf d) ≡ d → most (page d .next) < most (list (walking j (at p) o) t)
+  pub page-less : 1 ≤ room → (d : List ℕ) → drop room here ≡ d → leftAt (listedAt j) (top span) (placeOf d) ≡ d → most (page d .next) < most (list (walking j (at p) o) t)
   page-less h [] e f = omega arith
   page-less h (x ∷ d) e f = let n = ap length e in let m = length-drop room here in rw f (omega arith)

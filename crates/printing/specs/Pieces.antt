@@ -9,7 +9,7 @@ use Rattle.record.specs.Record.{number}
 use Rattle.ranks.specs.Rest.{leftAt}
 use Rattle.ranks.specs.Rank.{top}
 use Rattle.cuts.specs.Digits.{span}
-use Rattle.walk.specs.Walk.{solvesAt}
+use Rattle.walk.specs.Walk.{listedAt}
 use Rattle.calls.specs.Session.{early, walking}
 use Rattle.calls.specs.Session as Model
 use Rattle.session.specs.World.{world}
@@ -90,7 +90,7 @@ pub data Printed : Output → List ℕ → Type 0 where
 -- how many calls with room for a line there can be
 abbrev pub leftOf : Model.Session world → List ℕ
 leftOf (early p) = []
-leftOf (walking j w o) = leftAt (solvesAt j) (top span) w
+leftOf (walking j w o) = leftAt (listedAt j) (top span) w
 
 abbrev pub most : State → ℕ
 most long = 1

@@ -1,6 +1,6 @@
 -- A rectangle with its lower end above its upper one holds nothing: SPEC, "Membership".
 use mathlib.Core.Path.{_≡_, refl, sym, ap, subst, _∙_}
-use mathlib.Core.Bool.{Bool, true, false, not}
+use mathlib.Core.Bool.{true, false, not}
 use mathlib.Core.List.{[], _∷_}
 use Prim.Native.Nat.{ℕ, suc, zero-le}
 use lib.IntN.{ℤ, pos}
@@ -21,6 +21,7 @@ use Rattle.region.specs.Membership.{holds-in, solves-true}
 use Rattle.ranks.specs.Rest.{isNil}
 use Rattle.walk.specs.Walk.{full}
 use Rattle.walk.specs.Full.{full-empty}
+use Rattle.walk.specs.Search.{no-solution}
 
 -- it holds nothing at any scale
 pub record Void (r : Region) : Type 0 where
@@ -41,11 +42,7 @@ reversed-y r h = record { none = λ k X Y e. let m = holds-in (R.Rectangle r) _ 
 
 -- ---- a job with such a region has no solution
 empty : (j : Job) → ((v : Point) → solves j v ≡ true → ⊥) → false ≡ not (isNil (full j))
-empty j h = sym (ap not (ap isNil (full-empty j .1 (λ v. unsolved (solves j v) (h v)))))
-  where
-    unsolved : (b : Bool) → (b ≡ true → ⊥) → b ≡ false
-    unsolved true h = absurd (h refl)
-    unsolved false h = refl
+empty j h = sym (ap not (ap isNil (full-empty j .1 (λ v. no-solution j v (h v)))))
 
 pub void-first : (j : Job) → Void (j .a) → false ≡ not (isNil (full j))
 void-first j n = empty j (λ v e. n .none (j .k) _ _ (solves-true j v e .first))

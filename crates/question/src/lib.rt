@@ -30,7 +30,7 @@ pub(crate) struct Turn {
     pub back: Operator,
 }
 
-// Whether a job has a solution: by a brief look in its own coordinates, or else searched in the coordinates of an operator.
+// Whether a job's list has a point: by a brief look in its own coordinates, or else searched in the coordinates of an operator.
 pub fn has_solution(job: Job, caller: Operator) -> bool
     ensures { λ r. ⌜ r ≡ not (isNil (full job)) ⌝ }
 {

@@ -1,13 +1,12 @@
 -- A session's meaning fixes the session: the contracts, which state the meaning of the session that a call leaves, leave no choice of it.
 use mathlib.Core.Path.{_≡_, refl, sym, ap, _∙_}
-use Prim.Native.Nat.{ℕ}
 use Rattle.ring.specs.declared.Point.{Point}
-use Rattle.region.specs.declared.Region.{Region}
 use Rattle.walk.specs.declared.Spot.{Spot}
 use Rattle.walk.specs.declared.Spot.the-variants as P
 use Rattle.walk.specs.Walk.{pointOf, rankOf, spotOf}
 use Rattle.walk.specs.Points.{Fits32, point-rank}
 use Rattle.session.specs.declared.Course.{Course}
+use Rattle.session.specs.declared.Parts.{Parts}
 use Rattle.session.specs.declared.Stage.{Stage}
 use Rattle.session.specs.declared.Stage.the-variants as S
 use Rattle.session.specs.declared.Session.{Session}
@@ -19,9 +18,7 @@ pub data SpotFits : Spot → Type 0 where
   end : SpotFits P.Ended
 
 pub data Fits : Stage → Type 0 where
-  fresh : Fits S.Fresh
-  scaled : {k : ℕ} → Fits (S.Scaled k)
-  first : {k : ℕ} {a : Region} → Fits (S.First k a)
+  early : {p : Parts} → Fits (S.Early p)
   walking : {c : Course} → SpotFits (c .spot) → Fits (S.Walking c)
 
 -- a point of such numbers is the only one of its rank
@@ -37,22 +34,10 @@ course-one : (c d : Course) → c .job ≡ d .job → c .spot ≡ d .spot → c 
 course-one c d e f g = λ i. record { job = e i; spot = f i; operator = g i }
 
 stage-one : {g h : Stage} → Fits g → Fits h → stageOf g ≡ stageOf h → g ≡ h
-stage-one fresh fresh e = refl
-stage-one scaled scaled e = cc
-stage-one first first e = cc
+stage-one early early e = cc
 stage-one (walking {c} f) (walking {c = d} g) e = ap S.Walking (course-one c d (cc) (spot-one f g (cc)) (cc))
-stage-one fresh scaled e = cc
-stage-one fresh first e = cc
-stage-one fresh (walking g) e = cc
-stage-one scaled fresh e = cc
-stage-one scaled first e = cc
-stage-one scaled (walking g) e = cc
-stage-one first fresh e = cc
-stage-one first scaled e = cc
-stage-one first (walking g) e = cc
-stage-one (walking f) fresh e = cc
-stage-one (walking f) scaled e = cc
-stage-one (walking f) first e = cc
+stage-one early (walking g) e = cc
+stage-one (walking f) early e = cc
 
 pub meaning-one : {s t : Session} → Fits (s .stage) → Fits (t .stage) → meaning s ≡ meaning t → s ≡ t
 meaning-one f g e = λ i. record { stage = stage-one f g e i }

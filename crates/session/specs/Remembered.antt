@@ -22,7 +22,8 @@ use Rattle.calls.specs.Session.{Reading, refuse, accept, Stage, part, whole, Ca
 use Rattle.calls.specs.Session.{early, walking, joined, remembered, step, after}
 use Rattle.calls.specs.Session as Model
 use Rattle.calls.specs.Remembered.{operatorOf}
-use Rattle.session.specs.World.{Parts, world, partReading, operatorReading, turnAt}
+use Rattle.session.specs.declared.Parts.{Parts}
+use Rattle.session.specs.World.{world, partReading, operatorReading, turnAt}
 use Rattle.session.specs.Session.{meaning, fresh}
 
 never : {A : Type 0} (r n : ℕ) (a : A) → _≡_ {A = Reading A} (refuse r) (accept n a) → ⊥
@@ -40,6 +41,7 @@ unfolding admissionOf bodyOf
 kind-special K.Scale b n o e = absurd (never _ n o e)
 kind-special K.Rectangle b n o e = absurd (never _ n o e)
 kind-special K.Ellipse b n o e = absurd (never _ n o e)
+kind-special K.Selection b n o e = absurd (never _ n o e)
 kind-special K.Unknown b n o e = absurd (never _ n o e)
 kind-special K.Operator b n o e = go (ltb (length b) 16) refl e
   where

@@ -1,6 +1,6 @@
--- Demand 2 for every run of the code's calls: a finished walk has handed out the point v if and only if v solves the job.
+-- Demand 2 for every run of the code's calls: a finished walk has handed out the point v if and only if v solves the job and is selected.
 use mathlib.Core.Path.{_≡_, refl, sym, ap, subst, _∙_}
-use mathlib.Core.Bool.{Bool, true, false, not}
+use mathlib.Core.Bool.{Bool, true, false, not, false≢true}
 use mathlib.Core.List.{List, [], _∷_, map, List·Memᴰ, List·Memᴰ·head, List·Memᴰ·tail, List·Memᴰ·not-nil, List·Memᴰ·cases-cons}
 use mathlib.Core.Logic.{_↔_, ⊎-elim}
 use Prim.Native.Nat.{ℕ, zero, suc, _≤_, _<_}
@@ -10,14 +10,15 @@ use lib.ListN.{take}
 use Rattle.ring.specs.declared.Point.{Point}
 use Rattle.region.specs.declared.Job.{Job}
 use Rattle.region.specs.Region.{solves}
+use Rattle.region.specs.Selection.{selects, listed, listed-parts, is-listed}
 use Rattle.ranks.specs.Rest.{Place, isNil}
 use Rattle.ranks.specs.Rank.{top}
 use Rattle.ranks.specs.Members.{Rising, rest-sound}
 use Rattle.ranks.specs.Handed.{flat}
 use Rattle.cuts.specs.Digits.{span}
-use Rattle.walk.specs.Walk.{pointOf, solvesAt, numbersOf, full}
+use Rattle.walk.specs.Walk.{pointOf, listedAt, numbersOf, full}
 use Rattle.walk.specs.Points.{PointBefore, point-order, rank-point}
-use Rattle.walk.specs.Full.{Listed, full-holds, full-empty, solution-fits}
+use Rattle.walk.specs.Full.{Listed, full-holds, full-empty, listed-fits}
 use Rattle.operator.specs.declared.Operator.{Operator}
 use Rattle.calls.specs.Session.{whole, plain, early, walking}
 use Rattle.calls.specs.Session as Model
@@ -72,26 +73,26 @@ there-listed [] v r m e = absurd (List·Memᴰ·not-nil m)
 there-listed (q ∷ l) v r m e = ⊎-elim (λ f. List·Memᴰ·head (sym e ∙ ap pointOf f)) (λ k. List·Memᴰ·tail (there-listed l v r k e)) (List·Memᴰ·cases-cons m)
 
 module _ (j : Job) where
-  abbrev Solving : List ℕ → Type 0
-  Solving [] = Unit {0}
-  Solving (r ∷ l) = (solvesAt j r ≡ true) × Solving l
+  abbrev Passing : List ℕ → Type 0
+  Passing [] = Unit {0}
+  Passing (r ∷ l) = (listedAt j r ≡ true) × Passing l
 
-  solving : (l : List ℕ) → ((r : ℕ) → List·Memᴰ r l → solvesAt j r ≡ true) → Solving l
-  solving [] h = tt
-  solving (r ∷ l) h = (h r (List·Memᴰ·head refl), solving l (λ q m. h q (List·Memᴰ·tail m)))
+  passing : (l : List ℕ) → ((r : ℕ) → List·Memᴰ r l → listedAt j r ≡ true) → Passing l
+  passing [] h = tt
+  passing (r ∷ l) h = (h r (List·Memᴰ·head refl), passing l (λ q m. h q (List·Memᴰ·tail m)))
 
-  solving-take : (n : ℕ) (l : List ℕ) → Solving l → Solving (take n l)
-  solving-take zero l h = tt
-  solving-take (suc n) [] h = tt
-  solving-take (suc n) (r ∷ l) h = (h .0, solving-take n l (h .1))
+  passing-take : (n : ℕ) (l : List ℕ) → Passing l → Passing (take n l)
+  passing-take zero l h = tt
+  passing-take (suc n) [] h = tt
+  passing-take (suc n) (r ∷ l) h = (h .0, passing-take n l (h .1))
 
-  before-all : (r lo : ℕ) (l : List ℕ) → solvesAt j r ≡ true → r < lo → Rising lo l → Solving l → BeforeAll (pointOf r) (map pointOf l)
+  before-all : (r lo : ℕ) (l : List ℕ) → listedAt j r ≡ true → r < lo → Rising lo l → Passing l → BeforeAll (pointOf r) (map pointOf l)
   before-all r lo [] t h up s = tt
   before-all r lo (q ∷ l) t h up s =
       let less : r < q = omega arith in
-      (point-order (pointOf r) (pointOf q) (solution-fits j (pointOf r) t) (solution-fits j (pointOf q) (s .0)) .1 (rw (rank-point r, rank-point q) less), before-all r (suc q) l t (omega arith) (up .1) (s .1))
+      (point-order (pointOf r) (pointOf q) (listed-fits j (pointOf r) t) (listed-fits j (pointOf q) (s .0)) .1 (rw (rank-point r, rank-point q) less), before-all r (suc q) l t (omega arith) (up .1) (s .1))
 
-  ascending : (lo : ℕ) (l : List ℕ) → Rising lo l → Solving l → Ascending (map pointOf l)
+  ascending : (lo : ℕ) (l : List ℕ) → Rising lo l → Passing l → Ascending (map pointOf l)
   ascending lo [] up s = tt
   ascending lo (r ∷ l) up s = (before-all r (suc r) l (s .0) (omega arith) (up .1) (s .1), ascending (suc r) l (up .1) (s .1))
 
@@ -99,7 +100,7 @@ first-ascending : (m : Model.Session world) (n : ℕ) → Rising 0 (take n (full
 first-ascending (early p) zero up = tt
 first-ascending (early p) (suc n) up = tt
 first-ascending (walking j w o) n up =
-    ascending j 0 (take n (Model.full world j)) up (solving-take j n (Model.full world j) (solving j (Model.full world j) (λ r m. rest-sound (solvesAt j) (top span) 0 r m .2)))
+    ascending j 0 (take n (Model.full world j)) up (passing-take j n (Model.full world j) (passing j (Model.full world j) (λ r m. rest-sound (listedAt j) (top span) 0 r m .2)))
 
 -- in rising order, each once, of the points themselves, for every run
 pub run-points : {ms : List Made} {t : Session} → Run ms t → Ascending (handedOut ms)
@@ -107,23 +108,27 @@ run-points {ms} {t} r =
     let n = spaces world (sinceOf ms) in
     rw (run-first r, flat-points (take n (listOf t))) (first-ascending (meaning t) n (run-rising r))
 
--- ---- a finished walk has handed out u if and only if u solves the job
+-- ---- a finished walk has handed out v if and only if v solves the job and is selected: new at its scale, or any where the job lists all
+abbrev pub SelectedSolution : Job → Point → Type 0
+SelectedSolution j v = (solves j v ≡ true) × (selects j v ≡ true)
+
 pub record Finished (ms : List Made) (t : Session) : Type 0 where
   pub course : Course
   pub stands : t .stage ≡ S.Walking course
   -- its job is the one that the records read make, by the rules
   pub job : tallied world (begin world) (callsOf ms) .job ≡ whole (course .job)
-  pub solutions : (v : Point) → List·Memᴰ v (handedOut ms) ↔ (solves (course .job) v ≡ true)
+  pub solutions : (v : Point) → List·Memᴰ v (handedOut ms) ↔ SelectedSolution (course .job) v
   pub rising : Ascending (handedOut ms)
 
 course-of : (g : Stage) (j : Job) (w : Place) (o : Operator) → stageOf g ≡ walking j w o → (c : Course) × (g ≡ S.Walking c) × (c .job ≡ j)
-course-of S.Fresh j w o e = absurd (let z : _≡_ {A = ℕ} 0 1 = cc in omega arith)
-course-of (S.Scaled k) j w o e = absurd (let z : _≡_ {A = ℕ} 0 1 = cc in omega arith)
-course-of (S.First k a) j w o e = absurd (let z : _≡_ {A = ℕ} 0 1 = cc in omega arith)
+course-of (S.Early p) j w o e = absurd (let z : _≡_ {A = ℕ} 0 1 = cc in omega arith)
 course-of (S.Walking c) j w o e = (c, refl, cc)
 
-holds-just : (j : Job) (v : Point) → List·Memᴰ v (map pointOf (full j)) ↔ (solves j v ≡ true)
-holds-just j v = ((λ m. full-holds j v .1 (listed-there (full j) v m)), (λ e. let h = full-holds j v .0 e in there-listed (full j) v (h .at) (h .held) (h .point)))
+holds-just : (j : Job) (v : Point) → List·Memᴰ v (map pointOf (full j)) ↔ SelectedSolution j v
+holds-just j v = (
+  (λ m. let p = listed-parts j v (full-holds j v .1 (listed-there (full j) v m)) in (p .1, p .0)),
+  (λ s. let h = full-holds j v .0 (is-listed j v (s .1) (s .0)) in there-listed (full j) v (h .at) (h .held) (h .point)),
+)
 
 -- a hand-out since the last rewind or clearing reported the end
 pub run-finished : {ms : List Made} {t : Session} → Run ms t → reported world (sinceOf ms) ≡ true → Finished ms t
@@ -141,14 +146,25 @@ run-finished {ms} {t} r e =
       rising = run-points r;
     }
 
--- ---- the plain question says no if and only if no point solves the job
+-- ---- the plain question says no if and only if no point solves the job and is selected
 nil-not : (l : List ℕ) → (not (isNil l) ≡ false) ↔ (l ≡ [])
 nil-not [] = ((λ e. refl), (λ e. refl))
 nil-not (x ∷ l) = ((λ e. absurd (let z : _≡_ {A = ℕ} 0 1 = cc in omega arith)), (λ e. cc))
 
-pub run-empty : (s : Session) (c : Course) (b : Bool) → s .stage ≡ S.Walking c → Steps plain [] s s (A.Says b) → (b ≡ false) ↔ ((v : Point) → solves (c .job) v ≡ false)
+unless : (b : Bool) → (b ≡ true → ⊥) → b ≡ false
+unless true f = absurd (f refl)
+unless false f = refl
+
+none-listed : (j : Job) (v : Point) → (listed j v ≡ false) ↔ (SelectedSolution j v → ⊥)
+none-listed j v = (
+  (λ e s. false≢true (sym e ∙ is-listed j v (s .1) (s .0))),
+  (λ f. unless (listed j v) (λ e. let p = listed-parts j v e in f (p .1, p .0))),
+)
+
+pub run-empty : (s : Session) (c : Course) (b : Bool) → s .stage ≡ S.Walking c → Steps plain [] s s (A.Says b) → (b ≡ false) ↔ ((v : Point) → SelectedSolution (c .job) v → ⊥)
 unfolding full
 run-empty s c b e h =
     let q : b ≡ not (isNil (full (c .job))) = cc (ap (λ (o : Model.Outcome world). o .0) (rw e at h)) in
     let n = nil-not (full (c .job)) in
-    ((λ f. full-empty (c .job) .0 (n .0 (sym q ∙ f))), (λ g. q ∙ n .1 (full-empty (c .job) .1 g)))
+    let m = full-empty (c .job) in
+    ((λ f v. none-listed (c .job) v .0 (m .0 (n .0 (sym q ∙ f)) v)), (λ g. q ∙ n .1 (m .1 (λ v. none-listed (c .job) v .1 (g v)))))

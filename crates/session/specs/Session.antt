@@ -18,17 +18,18 @@ use Rattle.ranks.specs.Handed.{Gave}
 use Rattle.walk.specs.declared.Spot.{Spot}
 use Rattle.walk.specs.declared.Spot.the-variants as P
 use Rattle.cuts.specs.Digits.{span}
-use Rattle.walk.specs.Walk.{solvesAt, numbersOf, spotOf}
+use Rattle.walk.specs.Walk.{listedAt, numbersOf, spotOf}
 use Rattle.walk.specs.Hand.{gave-none}
 use Rattle.calls.specs.Session.{Call, handOut, refused, taken, handed, done, says, early, walking, joined, remembered, given, step, reading, lent}
 use Rattle.calls.specs.Session as Model
 use Rattle.session.specs.declared.Course.{Course}
+use Rattle.session.specs.declared.Parts.the-variants.{Nothing}
 use Rattle.session.specs.declared.Stage.{Stage}
 use Rattle.session.specs.declared.Stage.the-variants as S
 use Rattle.session.specs.declared.Session.{Session}
 use Rattle.session.specs.declared.Answer.{Answer}
 use Rattle.session.specs.declared.Answer.the-variants as A
-use Rattle.session.specs.World.{world, nothing, scaled, first, turnAt, partReading, operatorReading}
+use Rattle.session.specs.World.{world, turnAt, partReading, operatorReading}
 
 abbrev pub courseOf : Course → Model.Session world
 courseOf c = walking (c .job) (spotOf (c .spot)) (c .operator)
@@ -38,16 +39,14 @@ abbrev pub ended : Course → Course
 ended c = record { job = c .job; spot = P.Ended; operator = c .operator }
 
 abbrev pub stageOf : Stage → Model.Session world
-stageOf S.Fresh = early nothing
-stageOf (S.Scaled k) = early (scaled k)
-stageOf (S.First k a) = early (first k a)
+stageOf (S.Early p) = early p
 stageOf (S.Walking c) = courseOf c
 
 abbrev pub meaning : Session → Model.Session world
 meaning s = stageOf (s .stage)
 
 abbrev pub fresh : Session
-fresh = record { stage = S.Fresh }
+fresh = record { stage = S.Early Nothing }
 
 -- ---- answers, with the number of each refusal (SPEC, "Refusals"); a hand-out's with the lent slice as it is then
 abbrev pub answerOf : List ℤ → Answer → Model.Answer world
@@ -74,18 +73,14 @@ Hands s old new t a = Gives (step world (handOut old) (meaning s)) old new t a
 
 -- ---- one reading
 abbrev pub turnAtStage : Stage → Turn
-turnAtStage S.Fresh = T.Scale
-turnAtStage (S.Scaled k) = T.First
-turnAtStage (S.First k a) = T.Second
+turnAtStage (S.Early p) = turnAt p
 turnAtStage (S.Walking c) = T.Operators
 
 abbrev pub turnOf : Session → Turn
 turnOf s = turnAtStage (s .stage)
 
 abbrev pub stageOutcome : Stage → D.Reading → Model.Outcome world
-stageOutcome S.Fresh r = joined world nothing (partReading nothing r)
-stageOutcome (S.Scaled k) r = joined world (scaled k) (partReading (scaled k) r)
-stageOutcome (S.First k a) r = joined world (first k a) (partReading (first k a) r)
+stageOutcome (S.Early p) r = joined world p (partReading p r)
 stageOutcome (S.Walking c) r = remembered world (c .job) (spotOf (c .spot)) (c .operator) (operatorReading r)
 
 abbrev pub outcomeOf : Session → D.Reading → Model.Outcome world
@@ -93,34 +88,30 @@ outcomeOf s r = stageOutcome (s .stage) r
 
 -- a refused reading changes nothing
 pub refused-outcome : (g : Stage) (f : Refusal) → (refused (number f), stageOf g) ≡ stageOutcome g (RV.Refused f)
-refused-outcome S.Fresh f = refl
-refused-outcome (S.Scaled k) f = refl
-refused-outcome (S.First k a) f = refl
+refused-outcome (S.Early p) f = refl
 refused-outcome (S.Walking c) f = refl
 
 -- a reading is a step of the model
 pub reading-outcome : (g : Stage) (b : List ℕ) → step world (reading b) (stageOf g) ≡ stageOutcome g (readingOf b (turnAtStage g))
-reading-outcome S.Fresh b = refl
-reading-outcome (S.Scaled k) b = refl
-reading-outcome (S.First k a) b = refl
+reading-outcome (S.Early p) b = refl
 reading-outcome (S.Walking c) b = refl
 
 -- ---- a hand-out
 -- nothing is left where an answer is yes
 pub record EmptyIf (c : Course) (r : Bool) : Type 0 where
-  pub none : r ≡ true → leftAt (solvesAt (c .job)) (top span) (spotOf (c .spot)) ≡ []
+  pub none : r ≡ true → leftAt (listedAt (c .job)) (top span) (spotOf (c .spot)) ≡ []
 
 pub gave-gives : (c : Course) (spot : Spot) (old new : List ℤ) (count : ℕ) (e : Bool)
-    → Gave numbersOf 4 (leftAt (solvesAt (c .job)) (top span) (spotOf (c .spot))) old (length old / 4) count new (spotOf spot) → e ≡ isEnded (spotOf spot)
-    → Gives (given world (c .job) (c .operator) old (leftAt (solvesAt (c .job)) (top span) (spotOf (c .spot)))) old new (record { stage = S.Walking (record { job = c .job; spot = spot; operator = c .operator }) }) (A.Handed count e)
+    → Gave numbersOf 4 (leftAt (listedAt (c .job)) (top span) (spotOf (c .spot))) old (length old / 4) count new (spotOf spot) → e ≡ isEnded (spotOf spot)
+    → Gives (given world (c .job) (c .operator) old (leftAt (listedAt (c .job)) (top span) (spotOf (c .spot)))) old new (record { stage = S.Walking (record { job = c .job; spot = spot; operator = c .operator }) }) (A.Handed count e)
 gave-gives c spot old new count e g h =
-    let k = h ∙ ap isEnded (g .place) ∙ ended-nil (drop (length old / 4) (leftAt (solvesAt (c .job)) (top span) (spotOf (c .spot)))) in
+    let k = h ∙ ap isEnded (g .place) ∙ ended-nil (drop (length old / 4) (leftAt (listedAt (c .job)) (top span) (spotOf (c .spot)))) in
     record { met = λ i. (handed (g .count i) (k i) (g .slice i), walking (c .job) (g .place i) (c .operator)); slice = g .slice }
 
 pub course-hands : (c : Course) (v : Point) (old : List ℤ) → c .spot ≡ P.At v
-    → step world (handOut old) (courseOf c) ≡ given world (c .job) (c .operator) old (leftAt (solvesAt (c .job)) (top span) (spotOf (c .spot)))
+    → step world (handOut old) (courseOf c) ≡ given world (c .job) (c .operator) old (leftAt (listedAt (c .job)) (top span) (spotOf (c .spot)))
 course-hands c v old e = rw e refl
 
-pub empty-gives : (c : Course) (old : List ℤ) → leftAt (solvesAt (c .job)) (top span) (spotOf (c .spot)) ≡ []
-    → Gives (given world (c .job) (c .operator) old (leftAt (solvesAt (c .job)) (top span) (spotOf (c .spot)))) old old (record { stage = S.Walking (ended c) }) (A.Handed 0 true)
+pub empty-gives : (c : Course) (old : List ℤ) → leftAt (listedAt (c .job)) (top span) (spotOf (c .spot)) ≡ []
+    → Gives (given world (c .job) (c .operator) old (leftAt (listedAt (c .job)) (top span) (spotOf (c .spot)))) old old (record { stage = S.Walking (ended c) }) (A.Handed 0 true)
 empty-gives c old e = gave-gives c P.Ended old old 0 true (gave-none _ old _ e) refl

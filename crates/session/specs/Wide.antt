@@ -1,4 +1,4 @@
--- A point beyond 32 bits solves no job.
+-- A point beyond 32 bits is in no job's list.
 use mathlib.Core.Path.{_≡_, refl, sym, ap, _∙_}
 use mathlib.Core.Bool.{Bool, true, false}
 use Prim.Native.Nat.{ℕ, _^_}
@@ -15,8 +15,8 @@ use Rattle.integers.specs.Narrow.{narrowOf, pick, narrow-fits}
 use Rattle.ring.specs.declared.Point.{Point}
 use Rattle.ring.specs.Point.{ext}
 use Rattle.region.specs.declared.Job.{Job}
-use Rattle.region.specs.Region.{solves}
-use Rattle.walk.specs.Full.{solution-fits}
+use Rattle.region.specs.Selection.{listed}
+use Rattle.walk.specs.Full.{listed-fits}
 
 narrow-is : (z a : ℤ) → narrowOf z ≡ N.Fits a → a ≡ z
 unfolding narrowOf
@@ -42,17 +42,17 @@ unless true f = absurd (f refl)
 unless false f = refl
 
 module _ (j : Job) (v : Point) where
-  pub none-a : narrowOf (v .a) ≡ N.TooWide → false ≡ solves j v
-  none-a h = unless (solves j v) (λ e. too-wide (v .a) h (solution-fits j v e .a))
+  pub none-a : narrowOf (v .a) ≡ N.TooWide → false ≡ listed j v
+  none-a h = unless (listed j v) (λ e. too-wide (v .a) h (listed-fits j v e .a))
 
-  pub none-b : narrowOf (v .b) ≡ N.TooWide → false ≡ solves j v
-  none-b h = unless (solves j v) (λ e. too-wide (v .b) h (solution-fits j v e .b))
+  pub none-b : narrowOf (v .b) ≡ N.TooWide → false ≡ listed j v
+  none-b h = unless (listed j v) (λ e. too-wide (v .b) h (listed-fits j v e .b))
 
-  pub none-c : narrowOf (v .c) ≡ N.TooWide → false ≡ solves j v
-  none-c h = unless (solves j v) (λ e. too-wide (v .c) h (solution-fits j v e .c))
+  pub none-c : narrowOf (v .c) ≡ N.TooWide → false ≡ listed j v
+  none-c h = unless (listed j v) (λ e. too-wide (v .c) h (listed-fits j v e .c))
 
-  pub none-d : narrowOf (v .d) ≡ N.TooWide → false ≡ solves j v
-  none-d h = unless (solves j v) (λ e. too-wide (v .d) h (solution-fits j v e .d))
+  pub none-d : narrowOf (v .d) ≡ N.TooWide → false ≡ listed j v
+  none-d h = unless (listed j v) (λ e. too-wide (v .d) h (listed-fits j v e .d))
 
   pub all-fit : (w : Point) → narrowOf (v .a) ≡ N.Fits (w .a) → narrowOf (v .b) ≡ N.Fits (w .b) → narrowOf (v .c) ≡ N.Fits (w .c) → narrowOf (v .d) ≡ N.Fits (w .d) → w ≡ v
   all-fit w a b c d = ext (narrow-is _ _ a) (narrow-is _ _ b) (narrow-is _ _ c) (narrow-is _ _ d)

@@ -8,7 +8,7 @@ use lib.Dec.{T, eqb, eqb→eq}
 use Rattle.ring.specs.declared.Point.{Point}
 use Rattle.region.specs.declared.Region.{Region}
 use Rattle.region.specs.declared.Job.{Job}
-use Rattle.region.specs.Region.{solves}
+use Rattle.region.specs.Selection.{listed}
 use Rattle.operator.specs.declared.Operator.{Operator}
 use Rattle.operator.specs.declared.Inverse.{Inverse}
 use Rattle.operator.specs.declared.Inverse.the-variants as I
@@ -24,32 +24,43 @@ use Rattle.record.specs.declared.Reading as Read
 use Rattle.record.specs.declared.Reading.the-variants as RV
 use Rattle.ranks.specs.Rank.{top}
 use Rattle.cuts.specs.Digits.{span}
-use Rattle.walk.specs.Walk.{solvesAt, numbersOf}
+use Rattle.walk.specs.Walk.{listedAt, numbersOf}
 use Rattle.calls.specs.Session.{World, Reading, refuse, accept, Stage, part, whole, isOperator}
+use Rattle.session.specs.declared.Parts.{Parts}
+use Rattle.session.specs.declared.Parts.the-variants.{Nothing, Scaled, Selected, First}
 
--- what a job has before scale, A and B are all there
-pub data Parts : Type 0 where
-  nothing : Parts
-  scaled : ℕ → Parts
-  first : ℕ → Region → Parts
-
--- the turn: scale, region A, region B, then operators
+-- the turn: scale, at most one selection, region A, region B, then operators
 abbrev pub turnAt : Parts → Turn
-turnAt nothing = T.Scale
-turnAt (scaled k) = T.First
-turnAt (first k a) = T.Second
+turnAt Nothing = T.Scale
+turnAt (Scaled k) = T.Selection
+turnAt (Selected k all) = T.First
+turnAt (First k all a) = T.Second
 
 -- a record that joins the job; in another's turn none is accepted
+abbrev pub placeScale : Parts → ℕ → ℕ → Reading (Stage Parts Job)
+placeScale Nothing k n = accept n (part (Scaled k))
+placeScale (Scaled h) k n = refuse 8
+placeScale (Selected h all) k n = refuse 8
+placeScale (First h all a) k n = refuse 8
+
+abbrev pub placeSelection : Parts → Bool → ℕ → Reading (Stage Parts Job)
+placeSelection Nothing all n = refuse 8
+placeSelection (Scaled k) all n = accept n (part (Selected k all))
+placeSelection (Selected k every) all n = refuse 8
+placeSelection (First k every a) all n = refuse 8
+
+-- without a selection only the new points are listed
+abbrev pub placeRegion : Parts → Region → ℕ → Reading (Stage Parts Job)
+placeRegion Nothing a n = refuse 8
+placeRegion (Scaled k) a n = accept n (part (First k false a))
+placeRegion (Selected k all) a n = accept n (part (First k all a))
+placeRegion (First k all a) b n = accept n (whole (record { k = k; all = all; a = a; b = b }))
+
 abbrev pub place : Parts → Record → ℕ → Reading (Stage Parts Job)
-place nothing (R.Scale k) n = accept n (part (scaled k))
-place nothing (R.Region a) n = refuse 8
-place nothing (R.Operator g) n = refuse 8
-place (scaled k) (R.Scale h) n = refuse 8
-place (scaled k) (R.Region a) n = accept n (part (first k a))
-place (scaled k) (R.Operator g) n = refuse 8
-place (first k a) (R.Scale h) n = refuse 8
-place (first k a) (R.Region b) n = accept n (whole (record { k = k; a = a; b = b }))
-place (first k a) (R.Operator g) n = refuse 8
+place p (R.Scale k) n = placeScale p k n
+place p (R.Selection all) n = placeSelection p all n
+place p (R.Region a) n = placeRegion p a n
+place p (R.Operator g) n = refuse 8
 
 abbrev pub partReading : Parts → Read.Reading → Reading (Stage Parts Job)
 partReading p (RV.Accepted x n) = place p x n
@@ -57,6 +68,7 @@ partReading p (RV.Refused f) = refuse (number f)
 
 abbrev pub note : Record → ℕ → Reading Operator
 note (R.Scale k) n = refuse 8
+note (R.Selection all) n = refuse 8
 note (R.Region a) n = refuse 8
 note (R.Operator g) n = accept n g
 
@@ -64,9 +76,9 @@ abbrev pub operatorReading : Read.Reading → Reading Operator
 operatorReading (RV.Accepted x n) = note x n
 operatorReading (RV.Refused f) = refuse (number f)
 
--- yes if and only if the inverse sends w to a solution
+-- yes if and only if the inverse sends w to a listed point
 abbrev pub undone : Job → Inverse → Point → Bool
-undone j (I.Operator h) w = solves j (imageOf h w)
+undone j (I.Operator h) w = listed j (imageOf h w)
 undone j (I.Refused c) w = false
 
 unfoldable pub isImage : Job → Operator → Point → Bool
@@ -80,21 +92,24 @@ part-refuses [] p h = absurd (false≢true h)
 part-refuses (k ∷ b) p h = rw (kind-4 k (eqb→eq k 4 (subst⁻¹ T h tt))) (go p)
   where
     go : (p : Parts) → partReading p (kindReading K.Operator b (turnAt p)) ≡ refuse 8
-    go nothing = refl
-    go (scaled k) = refl
-    go (first k a) = refl
+    go Nothing = refl
+    go (Scaled k) = refl
+    go (Selected k all) = refl
+    go (First k all a) = refl
 
 -- others in its turn
 pub operator-refuses : (b : List ℕ) → isOperator b ≡ false → (r : ℕ) × (operatorReading (readingOf b T.Operators) ≡ refuse r)
 unfolding readingOf kindOf admissionOf
 operator-refuses [] h = (1, refl)
-operator-refuses (k ∷ b) h = rw h (go (eqb k 1) (eqb k 2) (eqb k 3))
+operator-refuses (k ∷ b) h = rw h (go (eqb k 1) (eqb k 2) (eqb k 3) (eqb k 6))
   where
-    go : (x y z : Bool) → (r : ℕ) × (operatorReading (kindReading (pickKind x K.Scale (pickKind y K.Rectangle (pickKind z K.Ellipse K.Unknown))) b T.Operators) ≡ refuse r)
-    go true y z = (8, refl)
-    go false true z = (8, refl)
-    go false false true = (8, refl)
-    go false false false = (2, refl)
+    go : (x y z s : Bool)
+        → (r : ℕ) × (operatorReading (kindReading (pickKind x K.Scale (pickKind y K.Rectangle (pickKind z K.Ellipse (pickKind s K.Selection K.Unknown)))) b T.Operators) ≡ refuse r)
+    go true y z s = (8, refl)
+    go false true z s = (8, refl)
+    go false false true s = (8, refl)
+    go false false false true = (8, refl)
+    go false false false false = (2, refl)
 
 abbrev pub world : World
 world = record {
@@ -102,11 +117,11 @@ world = record {
   Job = Job;
   Operator = Operator;
   Point = Point;
-  none = nothing;
+  none = Nothing;
   identity = identity;
   readPart = λ b p. partReading p (readingOf b (turnAt p));
   readOperator = λ b. operatorReading (readingOf b T.Operators);
-  test = solvesAt;
+  test = listedAt;
   top = top span;
   coords = numbersOf;
   image = isImage;

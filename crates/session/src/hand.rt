@@ -5,7 +5,7 @@ ghost use Rattle.calls.specs.Session.{step, handOut, given};
 ghost use Rattle.ranks.specs.Rest.{leftAt};
 ghost use Rattle.ranks.specs.Rank.{top};
 ghost use Rattle.cuts.specs.Digits.{span};
-ghost use Rattle.walk.specs.Walk.{solvesAt, spotOf};
+ghost use Rattle.walk.specs.Walk.{listedAt, spotOf};
 ghost use Rattle.session.specs.World.{world};
 ghost use Rattle.session.specs.Session.{courseOf, ended, EmptyIf, Gives};
 use crate::Answer;
@@ -40,7 +40,7 @@ fn after_end(c: Course) -> Outcome
     }
 }
 
-// Whether nothing is left at the start of a walk: for a job without a solution the question, in coordinates of its own choice, is quicker than a walk.
+// Whether nothing is left at the start of a walk: for a job that lists nothing the question, in coordinates of its own choice, is quicker than a walk.
 fn is_empty(c: Course) -> bool
     ensures { λ r. ⌜ EmptyIf c r ⌝ }
 {
@@ -75,7 +75,7 @@ fn at_end(c: Course) -> Outcome
 
 // What is left from the spot on.
 fn from_spot(c: Course, out: &mut [i32]) -> Outcome
-    ensures { λ r. ⌜ Gives (given world (c .job) (c .operator) (now (out .entry)) (leftAt (solvesAt (c .job)) (top span) (spotOf (c .spot)))) (now (out .entry)) (now (out .exit)) (r .session) (r .answer) ⌝ }
+    ensures { λ r. ⌜ Gives (given world (c .job) (c .operator) (now (out .entry)) (leftAt (listedAt (c .job)) (top span) (spotOf (c .spot)))) (now (out .entry)) (now (out .exit)) (r .session) (r .answer) ⌝ }
 {
     if is_empty(c) {
         return at_end(c);

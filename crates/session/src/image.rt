@@ -1,7 +1,7 @@
 // The image question: SPEC, "Questions".
 ghost use mathlib.Core.Path.{_≡_};
 ghost use Rattle.operator.specs.Operator.{wide};
-ghost use Rattle.region.specs.Region.{solves};
+ghost use Rattle.region.specs.Selection.{listed};
 ghost use Rattle.session.specs.World.{isImage};
 use integers::Narrow;
 use operator::Inverse;
@@ -10,20 +10,20 @@ use operator::WidePoint;
 use region::Job;
 use ring::Point;
 
-// Whether the operator's inverse sends w to a solution.
+// Whether the operator's inverse sends w to a listed point.
 pub(crate) fn is_image(job: Job, g: Operator, w: Point) -> bool
     ensures { λ r. ⌜ r ≡ isImage job g w ⌝ }
 {
     let i = g.inverse();
     match i {
-        Inverse::Operator(h) => solves_wide(job, h.image(w)),
+        Inverse::Operator(h) => lists_wide(job, h.image(w)),
         Inverse::Refused(_) => false,
     }
 }
 
-// A point beyond 32 bits solves no job.
-fn solves_wide(job: Job, v: WidePoint) -> bool
-    ensures { λ r. ⌜ r ≡ solves job (wide v) ⌝ }
+// A point beyond 32 bits is in no job's list.
+fn lists_wide(job: Job, v: WidePoint) -> bool
+    ensures { λ r. ⌜ r ≡ listed job (wide v) ⌝ }
 {
     let na = integers::to_i32(v.a);
     let Narrow::Fits(a) = na else {
@@ -41,7 +41,7 @@ fn solves_wide(job: Job, v: WidePoint) -> bool
     let Narrow::Fits(d) = nd else {
         return false;
     };
-    job.solves(Point {
+    job.lists(Point {
         a: a,
         b: b,
         c: c,

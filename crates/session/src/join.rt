@@ -1,30 +1,32 @@
 // What a reading does to a session.
 ghost use mathlib.Core.Path.{_≡_};
 ghost use mathlib.Core.List.{[]};
-ghost use Rattle.record.specs.declared.Record.the-variants as R;
 ghost use Rattle.record.specs.declared.Reading.the-variants as reading;
+ghost use Rattle.calls.specs.Session.{joined, remembered};
+ghost use Rattle.walk.specs.Walk.{spotOf};
+ghost use Rattle.session.specs.World.{world, placeScale, placeSelection, placeRegion, partReading, operatorReading};
 ghost use Rattle.session.specs.Session.{outcome, outcomeOf};
 use crate::Answer;
 use crate::Course;
 use crate::Outcome;
+use crate::Parts;
 use crate::Session;
 use crate::Stage;
 use crate::place;
-use crate::refused;
 use operator::Operator;
 use record::Record;
 use record::Refusal;
 use region::Job;
 use region::Region;
 
-// An accepted record joins the session. Out of its turn none is accepted, so the last answers of these are never met.
+// An accepted record joins the session. Out of its turn none is accepted, so the refusals here are never met.
 pub(crate) fn accepted(s: Session, x: Record, n: usize) -> Outcome
     ensures { λ r. ⌜ outcome [] (r .session) (r .answer) ≡ outcomeOf s (reading.Accepted x n) ⌝ }
 {
-    match x {
-        Record::Scale(k) => scale(s, k, n),
-        Record::Region(a) => region(s, a, n),
-        Record::Operator(g) => operator(s, g, n),
+    let g = s.stage;
+    match g {
+        Stage::Early(p) => part(p, x, n),
+        Stage::Walking(c) => noted(c, x, n),
     }
 }
 
@@ -37,29 +39,62 @@ fn taken(stage: Stage, n: usize) -> Outcome
     }
 }
 
-fn scale(s: Session, k: u8, n: usize) -> Outcome
-    ensures { λ r. ⌜ outcome [] (r .session) (r .answer) ≡ outcomeOf s (reading.Accepted (R.Scale k) n) ⌝ }
+fn out_of_turn(stage: Stage) -> Outcome
+    ensures { λ r. ⌜ (r .session .stage ≡ stage) × (r .answer ≡ Answer.Refused Refusal.OutOfTurn) ⌝ }
 {
-    let g = s.stage;
-    match g {
-        Stage::Fresh => taken(Stage::Scaled(k), n),
-        Stage::Scaled(_) => refused(s, Refusal::OutOfTurn),
-        Stage::First(_, _) => refused(s, Refusal::OutOfTurn),
-        Stage::Walking(_) => refused(s, Refusal::OutOfTurn),
+    Outcome {
+        session: Session { stage: stage },
+        answer: Answer::Refused(Refusal::OutOfTurn),
     }
 }
 
-fn region(s: Session, a: Region, n: usize) -> Outcome
-    ensures { λ r. ⌜ outcome [] (r .session) (r .answer) ≡ outcomeOf s (reading.Accepted (R.Region a) n) ⌝ }
+// A record that comes before the job is whole.
+fn part(p: Parts, x: Record, n: usize) -> Outcome
+    ensures { λ r. ⌜ outcome [] (r .session) (r .answer) ≡ joined world p (partReading p (reading.Accepted x n)) ⌝ }
 {
-    let g = s.stage;
-    match g {
-        Stage::Fresh => refused(s, Refusal::OutOfTurn),
-        Stage::Scaled(k) => taken(Stage::First(k, a), n),
-        Stage::First(k, first) => taken(
+    match x {
+        Record::Scale(k) => scale(p, k, n),
+        Record::Selection(all) => selection(p, all, n),
+        Record::Region(a) => region(p, a, n),
+        Record::Operator(_) => out_of_turn(Stage::Early(p)),
+    }
+}
+
+fn scale(p: Parts, k: u8, n: usize) -> Outcome
+    ensures { λ r. ⌜ outcome [] (r .session) (r .answer) ≡ joined world p (placeScale p k n) ⌝ }
+{
+    match p {
+        Parts::Nothing => taken(Stage::Early(Parts::Scaled(k)), n),
+        Parts::Scaled(_) => out_of_turn(Stage::Early(p)),
+        Parts::Selected(_, _) => out_of_turn(Stage::Early(p)),
+        Parts::First(_, _, _) => out_of_turn(Stage::Early(p)),
+    }
+}
+
+fn selection(p: Parts, all: bool, n: usize) -> Outcome
+    ensures { λ r. ⌜ outcome [] (r .session) (r .answer) ≡ joined world p (placeSelection p all n) ⌝ }
+{
+    match p {
+        Parts::Nothing => out_of_turn(Stage::Early(p)),
+        Parts::Scaled(k) => taken(Stage::Early(Parts::Selected(k, all)), n),
+        Parts::Selected(_, _) => out_of_turn(Stage::Early(p)),
+        Parts::First(_, _, _) => out_of_turn(Stage::Early(p)),
+    }
+}
+
+// Where no selection was read only the new points are listed.
+fn region(p: Parts, a: Region, n: usize) -> Outcome
+    ensures { λ r. ⌜ outcome [] (r .session) (r .answer) ≡ joined world p (placeRegion p a n) ⌝ }
+{
+    match p {
+        Parts::Nothing => out_of_turn(Stage::Early(p)),
+        Parts::Scaled(k) => taken(Stage::Early(Parts::First(k, false, a)), n),
+        Parts::Selected(k, all) => taken(Stage::Early(Parts::First(k, all, a)), n),
+        Parts::First(k, all, first) => taken(
             Stage::Walking(Course {
                 job: Job {
                     k: k,
+                    all: all,
                     a: first,
                     b: a,
                 },
@@ -68,19 +103,18 @@ fn region(s: Session, a: Region, n: usize) -> Outcome
             }),
             n,
         ),
-        Stage::Walking(_) => refused(s, Refusal::OutOfTurn),
     }
 }
 
-fn operator(s: Session, g: Operator, n: usize) -> Outcome
-    ensures { λ r. ⌜ outcome [] (r .session) (r .answer) ≡ outcomeOf s (reading.Accepted (R.Operator g) n) ⌝ }
+// A record that comes after.
+fn noted(c: Course, x: Record, n: usize) -> Outcome
+    ensures { λ r. ⌜ outcome [] (r .session) (r .answer) ≡ remembered world (c .job) (spotOf (c .spot)) (c .operator) (operatorReading (reading.Accepted x n)) ⌝ }
 {
-    let t = s.stage;
-    match t {
-        Stage::Fresh => refused(s, Refusal::OutOfTurn),
-        Stage::Scaled(_) => refused(s, Refusal::OutOfTurn),
-        Stage::First(_, _) => refused(s, Refusal::OutOfTurn),
-        Stage::Walking(c) => taken(Stage::Walking(remembering(c, g)), n),
+    match x {
+        Record::Scale(_) => out_of_turn(Stage::Walking(c)),
+        Record::Selection(_) => out_of_turn(Stage::Walking(c)),
+        Record::Region(_) => out_of_turn(Stage::Walking(c)),
+        Record::Operator(g) => taken(Stage::Walking(remembering(c, g)), n),
     }
 }
 

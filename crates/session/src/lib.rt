@@ -2,6 +2,7 @@
 ghost use mathlib.Core.Path.{_≡_};
 ghost use mathlib.Core.List.{[]};
 ghost use Rattle.calls.specs.Session.{reading, handOut, rewind, clear, plain, imageOf};
+ghost use Rattle.session.specs.World.{turnAt};
 ghost use Rattle.session.specs.Session.{fresh, turnOf, Steps, Hands};
 
 mod hand;
@@ -25,11 +26,17 @@ pub struct Course {
     pub operator: Operator,
 }
 
-// What a session has read: nothing, the scale, scale and region A, or a whole job.
-pub enum Stage {
-    Fresh,
+// What a job has before it is whole: nothing, the scale, the scale and which solutions are listed (all, or only the new ones), and these with region A.
+pub enum Parts {
+    Nothing,
     Scaled(u8),
-    First(u8, Region),
+    Selected(u8, bool),
+    First(u8, bool, Region),
+}
+
+// What a session has read: parts of a job, or a whole one.
+pub enum Stage {
+    Early(Parts),
     Walking(Course),
 }
 
@@ -57,7 +64,7 @@ pub fn start() -> Session
     ensures { λ r. ⌜ r ≡ fresh ⌝ }
 {
     Session {
-        stage: Stage::Fresh,
+        stage: Stage::Early(Parts::Nothing),
     }
 }
 
@@ -76,10 +83,19 @@ fn turn(s: Session) -> Turn
 {
     let g = s.stage;
     match g {
-        Stage::Fresh => Turn::Scale,
-        Stage::Scaled(_) => Turn::First,
-        Stage::First(_, _) => Turn::Second,
+        Stage::Early(p) => turn_at(p),
         Stage::Walking(_) => Turn::Operators,
+    }
+}
+
+fn turn_at(p: Parts) -> Turn
+    ensures { λ r. ⌜ r ≡ turnAt p ⌝ }
+{
+    match p {
+        Parts::Nothing => Turn::Scale,
+        Parts::Scaled(_) => Turn::Selection,
+        Parts::Selected(_, _) => Turn::First,
+        Parts::First(_, _, _) => Turn::Second,
     }
 }
 
@@ -94,15 +110,13 @@ pub fn read(s: Session, bytes: &[u8]) -> Outcome
     }
 }
 
-// A hand-out: as many of the next solutions as the slice has space for.
+// A hand-out: as many of the next listed points as the slice has space for.
 pub fn hand_out(s: Session, out: &mut [i32]) -> Outcome
     ensures { λ r. ⌜ Hands s (now (out .entry)) (now (out .exit)) (r .session) (r .answer) ⌝ }
 {
     let g = s.stage;
     match g {
-        Stage::Fresh => refused(s, Refusal::NoJob),
-        Stage::Scaled(_) => refused(s, Refusal::NoJob),
-        Stage::First(_, _) => refused(s, Refusal::NoJob),
+        Stage::Early(_) => refused(s, Refusal::NoJob),
         Stage::Walking(c) => hand::from_course(c, out),
     }
 }
@@ -113,9 +127,7 @@ pub fn rewind(s: Session) -> Outcome
 {
     let g = s.stage;
     match g {
-        Stage::Fresh => refused(s, Refusal::NoJob),
-        Stage::Scaled(_) => refused(s, Refusal::NoJob),
-        Stage::First(_, _) => refused(s, Refusal::NoJob),
+        Stage::Early(_) => refused(s, Refusal::NoJob),
         Stage::Walking(c) => place::rewound(c),
     }
 }
@@ -130,28 +142,24 @@ pub fn clear(s: Session) -> Outcome
     }
 }
 
-// Whether the job has a solution.
+// Whether the job lists a point.
 pub fn has_solution(s: Session) -> Answer
     ensures { λ r. ⌜ Steps plain [] s s r ⌝ }
 {
     let g = s.stage;
     match g {
-        Stage::Fresh => Answer::Refused(Refusal::NoJob),
-        Stage::Scaled(_) => Answer::Refused(Refusal::NoJob),
-        Stage::First(_, _) => Answer::Refused(Refusal::NoJob),
+        Stage::Early(_) => Answer::Refused(Refusal::NoJob),
         Stage::Walking(c) => Answer::Says(question::has_solution(c.job, c.operator)),
     }
 }
 
-// Whether w is what the remembered operator makes of a solution.
+// Whether w is what the remembered operator makes of a listed point.
 pub fn has_image(s: Session, w: Point) -> Answer
     ensures { λ r. ⌜ Steps (imageOf w) [] s s r ⌝ }
 {
     let g = s.stage;
     match g {
-        Stage::Fresh => Answer::Refused(Refusal::NoJob),
-        Stage::Scaled(_) => Answer::Refused(Refusal::NoJob),
-        Stage::First(_, _) => Answer::Refused(Refusal::NoJob),
+        Stage::Early(_) => Answer::Refused(Refusal::NoJob),
         Stage::Walking(c) => Answer::Says(image::is_image(c.job, c.operator, w)),
     }
 }

@@ -18,7 +18,7 @@ use walk::Spot;
 // No coordinate is less.
 const LEAST: i32 = -2147483648;
 
-// Before the first solution of any job.
+// Before the first point of any job's list.
 pub(crate) fn before_all() -> Spot
     ensures { λ r. ⌜ spotOf r ≡ at 0 ⌝ }
 {

@@ -3,6 +3,7 @@ use mathlib.Core.Bool.{true}
 use borrow.Author.Tests.{not-true, not-false}
 use Rattle.region.specs.Region.{acceptedJob}
 use Rattle.region.specs.Decide.{not-accepted}
+use Rattle.region.specs.Selection.{unsolved}
 use Rattle.cuts.specs.Bounds.{ready}
 use Rattle.walk.specs.Full.{full-empty}
 use Rattle.walk.specs.Brief.{has-none, whole-look}
@@ -17,7 +18,7 @@ returns : tie.Need-returns
 returns c =
     let j = c .before .before .args .job in
     let n = sym (c .before .is-accepted .ensures) ∙ not-true _ (c .if1 .taken) in
-    has-none _ _ _ (full-empty j .1 (λ v. sym (not-accepted j v n)))
+    has-none _ _ _ (full-empty j .1 (λ v. unsolved j v (sym (not-accepted j v n))))
 
 accepted : (c : tie.Else1) → acceptedJob (c .before .before .args .job) ≡ true
 accepted c = sym (c .before .is-accepted .ensures) ∙ not-false _ (c .if1 .left)

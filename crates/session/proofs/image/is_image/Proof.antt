@@ -7,7 +7,7 @@ use Rattle.session.proofs.image.is_image.Reads as reads
 use Rattle.session.proofs.image.is_image.Lts as lts
 use Rattle.operator.proofs.Operator.image.Reads as image-reads
 use Rattle.operator.proofs.Operator.inverse.Reads as inverse-reads
-use Rattle.session.proofs.image.solves_wide.Reads as solves-wide-reads
+use Rattle.session.proofs.image.lists_wide.Reads as lists-wide-reads
 
 -- src/image.rt:17:9
 inverse-requires : tie.Need-inverse-requires
@@ -22,8 +22,8 @@ image-requires : tie.Need-image-requires
 image-requires c κs = search needs
 
 -- src/image.rt:19:33
-solves-wide-requires : tie.Need-solves-wide-requires
-solves-wide-requires c κs = search needs
+lists-wide-requires : tie.Need-lists-wide-requires
+lists-wide-requires c κs = search needs
 
 -- src/image.rt:20:32
 enum-told : tie.Need-enum-told
@@ -32,7 +32,7 @@ enum-told c = search needs
 -- src/image.rt:14:1
 returns : tie.Need-returns
 unfolding isImage
-returns c = c .solves-wide .ensures ∙ rw (sym (c .before .before .before .before .before .inverse .ensures .inverse) ∙ c .before .before .before .i .given .1, c .before .image .ensures) refl
+returns c = c .lists-wide .ensures ∙ rw (sym (c .before .before .before .before .before .inverse .ensures .inverse) ∙ c .before .before .before .i .given .1, c .before .image .ensures) refl
 
 -- src/image.rt:14:1
 returns-2 : tie.Need-returns-2
@@ -46,7 +46,7 @@ is-image-spec =
     inverse-requires
     enum-known-i
     image-requires
-    solves-wide-requires
+    lists-wide-requires
     enum-told
     returns
     returns-2)

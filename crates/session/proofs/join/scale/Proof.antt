@@ -1,11 +1,7 @@
-use mathlib.Core.Path.{_≡_, refl, sym, ap, ap₂, _∙_}
+use mathlib.Core.Path.{refl}
 use borrow.Author.Needs.{needs}
 use Rattle.session.proofs.join.scale.Statement.{statement}
 use Rattle.session.proofs.join.scale.Tie as tie
-use Rattle.session.proofs.join.scale.Reads as reads
-use Rattle.session.proofs.join.scale.Lts as lts
-use Rattle.session.proofs.refused.Reads as refused-reads
-use Rattle.session.proofs.join.taken.Reads as taken-reads
 
 enum-told : tie.Need-enum-told
 enum-told c = search needs
@@ -16,32 +12,32 @@ taken-requires c κs = search needs
 enum-told-2 : tie.Need-enum-told-2
 enum-told-2 c = search needs
 
-refused-requires : tie.Need-refused-requires
-refused-requires c κs = search needs
+out-of-turn-requires : tie.Need-out-of-turn-requires
+out-of-turn-requires c κs = search needs
 
 enum-told-3 : tie.Need-enum-told-3
 enum-told-3 c = search needs
 
-refused-requires-2 : tie.Need-refused-requires-2
-refused-requires-2 c κs = search needs
+out-of-turn-requires-2 : tie.Need-out-of-turn-requires-2
+out-of-turn-requires-2 c κs = search needs
 
 enum-told-4 : tie.Need-enum-told-4
 enum-told-4 c = search needs
 
-refused-requires-3 : tie.Need-refused-requires-3
-refused-requires-3 c κs = search needs
+out-of-turn-requires-3 : tie.Need-out-of-turn-requires-3
+out-of-turn-requires-3 c κs = search needs
 
 returns : tie.Need-returns
 returns c = rw (c .taken .ensures .0, c .taken .ensures .1, c .before .enum-told .given .1) refl
 
 returns-2 : tie.Need-returns-2
-returns-2 c = rw (c .refused .ensures .0, c .refused .ensures .1, c .before .enum-told2 .given .1) refl
+returns-2 c = rw (c .out-of-turn .ensures .0, c .out-of-turn .ensures .1, c .before .enum-told2 .given .1) refl
 
 returns-3 : tie.Need-returns-3
-returns-3 c = rw (c .refused2 .ensures .0, c .refused2 .ensures .1, c .before .enum-told3 .given .1) refl
+returns-3 c = rw (c .out-of-turn2 .ensures .0, c .out-of-turn2 .ensures .1, c .before .enum-told3 .given .1) refl
 
 returns-4 : tie.Need-returns-4
-returns-4 c = rw (c .refused3 .ensures .0, c .refused3 .ensures .1, c .before .enum-told4 .given .1) refl
+returns-4 c = rw (c .out-of-turn3 .ensures .0, c .out-of-turn3 .ensures .1, c .before .enum-told4 .given .1) refl
 
 pub scale-spec : {M : Type 1} → statement M
 scale-spec =
@@ -50,11 +46,11 @@ scale-spec =
     enum-told
     taken-requires
     enum-told-2
-    refused-requires
+    out-of-turn-requires
     enum-told-3
-    refused-requires-2
+    out-of-turn-requires-2
     enum-told-4
-    refused-requires-3
+    out-of-turn-requires-3
     returns
     returns-2
     returns-3

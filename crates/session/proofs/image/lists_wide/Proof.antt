@@ -1,17 +1,17 @@
 use mir.Syntax.{w64}
 use mir.Val.{SFits}
 use mir.Facts.{toZ-ofZ}
-use Rattle.region.specs.Region.{solves}
+use Rattle.region.specs.Selection.{listed}
 use mathlib.Core.Path.{_≡_, refl, sym, ap, ap₂, _∙_}
 use Rattle.operator.specs.Operator.{wide}
 use Rattle.session.specs.Wide.{none-a, none-b, none-c, none-d, all-fit, narrow-within}
 use borrow.Author.Needs.{needs}
-use Rattle.session.proofs.image.solves_wide.Statement.{statement}
-use Rattle.session.proofs.image.solves_wide.Tie as tie
-use Rattle.session.proofs.image.solves_wide.Reads as reads
-use Rattle.session.proofs.image.solves_wide.Lts as lts
+use Rattle.session.proofs.image.lists_wide.Statement.{statement}
+use Rattle.session.proofs.image.lists_wide.Tie as tie
+use Rattle.session.proofs.image.lists_wide.Reads as reads
+use Rattle.session.proofs.image.lists_wide.Lts as lts
 use Rattle.integers.proofs.to_i32.Reads as to-i32-reads
-use Rattle.region.proofs.Job.solves.Reads as solves-reads
+use Rattle.region.proofs.Job.lists.Reads as lists-reads
 
 fits-a : (s : tie.Start) → SFits w64 (s .args .v .a)
 fits-a s = search needs
@@ -81,8 +81,8 @@ returns-4 c =
     let s = c .before .before .before .before .before .before .before .before .before .before .before .before .before .before .before .before .before .before .before in
     none-d (s .args .job) (wide (s .args .v)) (sym (rw (toZ-ofZ (fits-d s)) at (c .before .before .to-i324 .ensures)) ∙ c .enum-told4 .given .1)
 
-solves-requires : tie.Need-solves-requires
-solves-requires c κs = search needs
+lists-requires : tie.Need-lists-requires
+lists-requires c κs = search needs
 
 returns-5 : tie.Need-returns-5
 returns-5 c =
@@ -95,11 +95,11 @@ returns-5 c =
     let eb = sym (rw (toZ-ofZ (fits-b s)) at (f .before .before .to-i322 .ensures)) ∙ f .nb .given .1 in
     let ec = sym (rw (toZ-ofZ (fits-c s)) at (e .before .before .to-i323 .ensures)) ∙ e .nc .given .1 in
     let ed = sym (rw (toZ-ofZ (fits-d s)) at (d .before .before .to-i324 .ensures)) ∙ d .nd .given .1 in
-    rw (toZ-ofZ (narrow-within _ _ ea), toZ-ofZ (narrow-within _ _ eb), toZ-ofZ (narrow-within _ _ ec), toZ-ofZ (narrow-within _ _ ed)) at (c .solves .ensures)
-    ∙ ap (solves (s .args .job)) (all-fit (s .args .job) (wide (s .args .v)) _ ea eb ec ed)
+    rw (toZ-ofZ (narrow-within _ _ ea), toZ-ofZ (narrow-within _ _ eb), toZ-ofZ (narrow-within _ _ ec), toZ-ofZ (narrow-within _ _ ed)) at (c .lists .ensures)
+    ∙ ap (listed (s .args .job)) (all-fit (s .args .job) (wide (s .args .v)) _ ea eb ec ed)
 
-pub solves-wide-spec : {M : Type 1} → statement M
-solves-wide-spec =
+pub lists-wide-spec : {M : Type 1} → statement M
+lists-wide-spec =
     tie.close
     (tie.spec
     to-i32-requires
@@ -118,5 +118,5 @@ solves-wide-spec =
     enum-known-nd
     enum-told-4
     returns-4
-    solves-requires
+    lists-requires
     returns-5)
