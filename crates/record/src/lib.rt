@@ -53,6 +53,7 @@ pub enum Refusal {
     OutOfTurn,
     NoJob,
     Ended,
+    NoPattern,
 }
 
 impl Refusal {
@@ -70,6 +71,7 @@ impl Refusal {
             Refusal::OutOfTurn => 8,
             Refusal::NoJob => 9,
             Refusal::Ended => 10,
+            Refusal::NoPattern => 14,
         }
     }
 }
