@@ -1,7 +1,7 @@
 // The bench keeps one session, and each call moves that session on: SPEC, "Calls". Each call is lent the session, calls the one of `session`
 // that takes it by value, and has the same contract.
 ghost use mathlib.Core.List.{[]};
-ghost use Rattle.calls.specs.Session.{reading, rewind as rewinding, clear as clearing, plain, imageOf};
+ghost use Rattle.calls.specs.Session.{reading, rewind as rewinding, clear as clearing, plain, imageOf, shortest as shortestOf};
 ghost use Rattle.session.specs.Session.{Steps, Hands};
 use ring::Point;
 use session::Answer;
@@ -55,4 +55,11 @@ pub fn has_image(s: &Session, w: Point) -> Answer
     ensures { λ r. ⌜ Steps (imageOf w) [] (now (s .entry)) (now (s .entry)) r ⌝ }
 {
     session::has_image(*s, w)
+}
+
+// The shortest pattern that the job allows.
+pub fn shortest(s: &Session) -> Answer
+    ensures { λ r. ⌜ Steps shortestOf [] (now (s .entry)) (now (s .entry)) r ⌝ }
+{
+    session::shortest(*s)
 }

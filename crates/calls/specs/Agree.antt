@@ -3,6 +3,8 @@
 use mathlib.Core.Path.{_≡_, refl, sym, ap, ap₂, _∙_}
 use mathlib.Core.Bool.{false}
 use mathlib.Core.List.{List, [], _∷_, map}
+use mathlib.Core.Option.{Option}
+use mathlib.Core.Option as O
 use Prim.Native.Nat.{ℕ, zero, suc, _+_, _-_, _≤_, min}
 use native.Mathlib.Nat.{zero-min, min-zero, suc-min-suc}
 use native.Mathlib.Omega.{arith}
@@ -11,9 +13,9 @@ use lib.ListN.{length, take, drop, length-take, length-drop}
 use lib.Seq.{drop-drop}
 use Rattle.ranks.specs.Rest.{rest, Place, at, ended, isEnded, isNil, placeOf, ended-nil, leftAt, left-place}
 use Rattle.calls.specs.Session.{World, Reading, refuse, accept, Stage, part, whole}
-use Rattle.calls.specs.Session.{Call, reading, handOut, rewind, clear, plain, imageOf}
-use Rattle.calls.specs.Session.{full, space, Session, early, walking, fresh, Outcome, joined, remembered, given, step, answers, after}
-use Rattle.calls.specs.Rules.{isZero, verdict, Tally, Ruling, begin, join, pass, deal, rule, verdicts, tallied}
+use Rattle.calls.specs.Session.{Call, reading, handOut, rewind, clear, plain, imageOf, shortest}
+use Rattle.calls.specs.Session.{full, space, Session, early, walking, fresh, Outcome, joined, remembered, given, found, step, answers, after}
+use Rattle.calls.specs.Rules.{isZero, verdict, Tally, Ruling, begin, join, pass, deal, findRule, rule, verdicts, tallied}
 
 take-min : (n : ℕ) (l : List ℕ) → take (min n (length l)) l ≡ take n l
 take-min zero l = rw zero-min
@@ -30,7 +32,7 @@ nil-length [] = refl
 nil-length (x ∷ l) = refl
 
 module _ (W : World) where
-  open World W using (Parts, Job, Operator, none, identity, readPart, readOperator, test, top)
+  open World W using (Parts, Job, Operator, Best, none, identity, readPart, readOperator, test, top, least)
 
   -- a session and a tally that stand at the same point of the same job
   data Follows : Session W → Tally W → Type 0 where
@@ -69,6 +71,10 @@ module _ (W : World) where
       let f = along j (placeOf (drop k left)) o (n + m) (omega arith) (keeps ∙ sym behind) in
       record { same = cc; next = rw (ended-nil (drop k left) ∙ end) at f }
 
+  finds : (x : Option Best) → verdict W (found W x) ≡ findRule W x
+  finds O.none = refl
+  finds (O.some b) = refl
+
   agrees : (c : Call W) {s : Session W} {t : Tally W} → Follows s t → Meets (step W c s) (rule W c t)
   agrees clear f = record { same = refl; next = soon none }
   agrees (reading b) (soon p) = joins p (readPart b p)
@@ -76,12 +82,14 @@ module _ (W : World) where
   agrees rewind (soon p) = record { same = refl; next = soon p }
   agrees plain (soon p) = record { same = refl; next = soon p }
   agrees (imageOf v) (soon p) = record { same = refl; next = soon p }
+  agrees shortest (soon p) = record { same = refl; next = soon p }
   agrees (reading b) (along j w o n h e) = passes j w o n h e (readOperator b)
   agrees (handOut l) (along j ended o n h e) = record { same = refl; next = along j ended o n h e }
   agrees (handOut l) (along j (at p) o n h e) = gives j o l (rest (test j) top p) n h e (left-place (test j) top (space W l) p)
   agrees rewind (along j w o n h e) = record { same = refl; next = along j (at 0) _ 0 (omega arith) refl }
   agrees plain (along j w o n h e) = record { same = refl; next = along j w o n h e }
   agrees (imageOf v) (along j w o n h e) = record { same = refl; next = along j w o n h e }
+  agrees shortest (along j w o n h e) = record { same = finds (least j); next = along j w o n h e }
 
   all-agree : (cs : List (Call W)) {s : Session W} {t : Tally W} → Follows s t → map (verdict W) (answers W s cs) ≡ verdicts W t cs
   all-agree [] f = refl

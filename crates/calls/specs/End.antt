@@ -3,6 +3,8 @@
 use mathlib.Core.Path.{_≡_, refl, sym, ap, _∙_}
 use mathlib.Core.Bool.{Bool, true, false, cond, false≢true}
 use mathlib.Core.List.{List, [], _∷_, _++_}
+use mathlib.Core.Option.{Option}
+use mathlib.Core.Option as O
 use Prim.Native.Nat.{ℕ, _≤_}
 use native.Mathlib.Omega.{arith}
 use lib.IntN.{ℤ}
@@ -11,13 +13,13 @@ use lib.Seq.{take-all}
 use Rattle.ranks.specs.Rest.{Place, at, ended, isEnded, isNil, placeOf, ended-nil, rest, leftAt}
 use Rattle.ranks.specs.Handed.{flat}
 use Rattle.calls.specs.Session.{World, Reading, refuse, accept, Stage, part, whole}
-use Rattle.calls.specs.Session.{Call, reading, handOut, rewind, clear, plain, imageOf, Answer, refused, taken, handed, done, says}
-use Rattle.calls.specs.Session.{full, space, Session, early, walking, fresh, joined, remembered, step, after}
+use Rattle.calls.specs.Session.{Call, reading, handOut, rewind, clear, plain, imageOf, shortest, Answer, refused, taken, handed, done, says, best}
+use Rattle.calls.specs.Session.{full, space, Session, early, walking, fresh, joined, remembered, found, step, after}
 use Rattle.calls.specs.Since.{Exchange, exchanges, restarts, sinceAfter, since, points, spaces, fullOf}
 use Rattle.calls.specs.First.{Holds, soon, along, holds-since}
 
 module _ (W : World) where
-  open World W using (Parts, Job, Operator, readPart, readOperator, test, top, coords)
+  open World W using (Parts, Job, Operator, Best, readPart, readOperator, test, top, coords, least)
 
   -- a hand-out's answer whose end is yes
   abbrev pub saysEnd : Answer W → Bool
@@ -26,6 +28,7 @@ module _ (W : World) where
   saysEnd (handed n e l) = e
   saysEnd done = false
   saysEnd (says b) = false
+  saysEnd (best b) = false
 
   -- one of these hand-outs reported the end
   abbrev pub reported : List (Exchange W) → Bool
@@ -55,6 +58,10 @@ module _ (W : World) where
   stays (at p) = refl
   stays ended = refl
 
+  finds : (w : Place) (x : Option Best) → isEnded w ≡ cond (isEnded w) true (saysEnd (found W x))
+  finds w O.none = stays w
+  finds w (O.some b) = stays w
+
   goes : (c : Call W) (s : Session W) → Goes c s
   goes clear s = refl
   goes (reading b) (early p) = joins p (readPart b p)
@@ -62,12 +69,14 @@ module _ (W : World) where
   goes rewind (early p) = refl
   goes plain (early p) = refl
   goes (imageOf v) (early p) = refl
+  goes shortest (early p) = refl
   goes (reading b) (walking j w o) = notes j w o (readOperator b)
   goes (handOut l) (walking j ended o) = refl
   goes (handOut l) (walking j (at p) o) = ended-nil (drop (space W l) (rest (test j) top p))
   goes rewind (walking j w o) = refl
   goes plain (walking j w o) = stays w
   goes (imageOf v) (walking j w o) = stays w
+  goes shortest (walking j w o) = finds w (least j)
 
   reported-more : (xs : List (Exchange W)) (x : Exchange W) → reported (xs ++ (x ∷ [])) ≡ cond (reported xs) true (saysEnd (x .1))
   reported-more [] x = go (saysEnd (x .1))

@@ -3,6 +3,8 @@
 use mathlib.Core.Path.{_≡_, refl, sym, ap, _∙_}
 use mathlib.Core.Bool.{Bool, true, false, cond}
 use mathlib.Core.List.{List, [], _∷_, _++_, append-assoc, append-nil}
+use mathlib.Core.Option.{Option}
+use mathlib.Core.Option as O
 use Prim.Native.Nat.{ℕ, _+_, _*_, min}
 use native.Mathlib.Nat.{add-zero}
 use native.Mathlib.Omega.{arith}
@@ -13,12 +15,12 @@ use Rattle.ranks.specs.Rest.{rest, Place, at, ended, isNil, placeOf, leftAt, le
 use Rattle.ranks.specs.Members.{Rising, rising-take, rest-rising}
 use Rattle.ranks.specs.Handed.{put, flat, flat-append, length-flat, take-put}
 use Rattle.calls.specs.Session.{World, Reading, refuse, accept, Stage, part, whole}
-use Rattle.calls.specs.Session.{Call, reading, handOut, rewind, clear, plain, imageOf, Answer, refused, taken, handed, done, says}
-use Rattle.calls.specs.Session.{full, space, Session, early, walking, fresh, Outcome, joined, remembered, given, step, after}
+use Rattle.calls.specs.Session.{Call, reading, handOut, rewind, clear, plain, imageOf, shortest, Answer, refused, taken, handed, done, says, best}
+use Rattle.calls.specs.Session.{full, space, Session, early, walking, fresh, Outcome, joined, remembered, given, found, step, after}
 use Rattle.calls.specs.Since.{Exchange, exchanges, restarts, sinceAfter, since, written, points, lentSpace, spaces, fullOf, leftAfter}
 
 module _ (W : World) where
-  open World W using (Parts, Job, Operator, none, identity, readPart, readOperator, test, top, coords, four)
+  open World W using (Parts, Job, Operator, Best, none, identity, readPart, readOperator, test, top, coords, four, least)
 
   points-more : (xs : List (Exchange W)) (x : Exchange W) → points W (xs ++ (x ∷ [])) ≡ points W xs ++ written W (x .1)
   points-more [] x = append-nil (written W (x .1))
@@ -62,6 +64,10 @@ module _ (W : World) where
       sym (flat-append coords (take k F) (take n left)) ∙ ap (flat coords) more in
       rw (back, all) (along j (placeOf (drop n left)) o (k + n) (left-place (test j) top n p ∙ ap (drop n) e ∙ drop-drop n k F))
 
+  finds : (x : Option Best) {s : Session W} {ps : List ℤ} {k : ℕ} → Holds s ps k → Holds s (ps ++ written W (found W x)) (k + 0)
+  finds O.none f = same f
+  finds (O.some b) f = same f
+
   holds : (c : Call W) {s : Session W} {ps : List ℤ} {k : ℕ} → Holds s ps k → Next c (step W c s) ps k
   holds clear f = soon none
   holds (reading b) (soon p) = joins b p (readPart b p)
@@ -69,12 +75,14 @@ module _ (W : World) where
   holds rewind (soon p) = same (soon p)
   holds plain (soon p) = same (soon p)
   holds (imageOf v) (soon p) = same (soon p)
+  holds shortest (soon p) = same (soon p)
   holds (reading b) (along j w o k e) = remembers b j w o k e (readOperator b)
   holds (handOut l) (along j ended o k e) = same (along j ended o k e)
   holds (handOut l) (along j (at p) o k e) = gives j p o k l e
   holds rewind (along j w o k e) = along j (at 0) _ 0 refl
   holds plain (along j w o k e) = same (along j w o k e)
   holds (imageOf v) (along j w o k e) = same (along j w o k e)
+  holds shortest (along j w o k e) = finds (least j) (along j w o k e)
 
   adds : (b : Bool) (seen : List (Exchange W)) (x : Exchange W) {s : Session W}
       → Holds s (cond b [] (points W seen ++ written W (x .1))) (cond b 0 (spaces W seen + lentSpace W (x .0) (x .1)))
@@ -123,6 +131,7 @@ module _ (W : World) where
   Reports (handed n e l) left = e ≡ isNil left
   Reports done left = Unit {0}
   Reports (says b) left = Unit {0}
+  Reports (best b) left = Unit {0}
 
   reports : (l : List ℤ) {s : Session W} {ps : List ℤ} {k : ℕ} → Holds s ps k
       → Reports ((step W (handOut l) s) .0) (drop (k + lentSpace W (handOut l) ((step W (handOut l) s) .0)) (fullOf W ((step W (handOut l) s) .1)))

@@ -5,7 +5,7 @@ use mathlib.Core.Bool.{Bool, true, false, cond, not, false≢true}
 use mathlib.Core.List.{List, [], _∷_}
 use Rattle.ranks.specs.Rest.{Place, at, ended}
 use Rattle.calls.specs.Session.{World, Reading, refuse, accept, isOperator}
-use Rattle.calls.specs.Session.{Call, reading, handOut, rewind, clear, plain, imageOf, Answer, Session, early, walking, fresh, joined, remembered, step}
+use Rattle.calls.specs.Session.{Call, reading, handOut, rewind, clear, plain, imageOf, shortest, Answer, Session, early, walking, fresh, joined, remembered, step}
 
 module _ (W : World) where
   open World W using (Parts, Job, Operator, readPart, readOperator, turn-part)
@@ -18,6 +18,7 @@ module _ (W : World) where
   readsOperator clear = false
   readsOperator plain = false
   readsOperator (imageOf v) = false
+  readsOperator shortest = false
 
   -- a call whose answer no operator bears on: any but an operator reading and an image question
   abbrev pub isIndependent : Call W → Bool
@@ -27,6 +28,7 @@ module _ (W : World) where
   isIndependent clear = true
   isIndependent plain = true
   isIndependent (imageOf v) = false
+  isIndependent shortest = true
 
   abbrev pub isHandOut : Call W → Bool
   isHandOut (reading b) = false
@@ -35,6 +37,7 @@ module _ (W : World) where
   isHandOut clear = false
   isHandOut plain = false
   isHandOut (imageOf v) = false
+  isHandOut shortest = false
 
   operator-dependent : (c : Call W) → readsOperator c ≡ true → isIndependent c ≡ false
   operator-dependent (reading b) h = rw h
@@ -43,6 +46,7 @@ module _ (W : World) where
   operator-dependent clear h = absurd (false≢true h)
   operator-dependent plain h = absurd (false≢true h)
   operator-dependent (imageOf v) h = refl
+  operator-dependent shortest h = absurd (false≢true h)
 
   -- a list with its operator readings struck out
   abbrev pub struck : List (Call W) → List (Call W)
@@ -77,12 +81,14 @@ module _ (W : World) where
   step-both rewind (both-early p) = both-early p
   step-both plain (both-early p) = both-early p
   step-both (imageOf v) (both-early p) = both-early p
+  step-both shortest (both-early p) = both-early p
   step-both (reading b) (both-walking j w o o′) = remembered-both j w o o′ (readOperator b)
   step-both (handOut l) (both-walking j ended o o′) = both-walking j ended o o′
   step-both (handOut l) (both-walking j (at p) o o′) = both-walking j _ o o′
   step-both rewind (both-walking j w o o′) = both-walking j (at 0) _ _
   step-both plain (both-walking j w o o′) = both-walking j w o o′
   step-both (imageOf v) (both-walking j w o o′) = both-walking j w o o′
+  step-both shortest (both-walking j w o o′) = both-walking j w o o′
 
   step-operator : (c : Call W) → readsOperator c ≡ true → {s t : Session W} → SameButOperator s t → SameButOperator ((step W c s) .1) t
   step-operator (reading b) h (both-early p) = rw (turn-part b p h .1) (both-early p)
@@ -92,6 +98,7 @@ module _ (W : World) where
   step-operator clear h d = absurd (false≢true h)
   step-operator plain h d = absurd (false≢true h)
   step-operator (imageOf v) h d = absurd (false≢true h)
+  step-operator shortest h d = absurd (false≢true h)
 
   -- an accepted operator changes nothing here: an operator reading, accepted or refused, changes at most the remembered operator
   pub operator-only : (c : Call W) → readsOperator c ≡ true → (s : Session W) → SameButOperator ((step W c s) .1) s
@@ -109,6 +116,8 @@ module _ (W : World) where
   step-answer plain h (both-early p) = refl
   step-answer plain h (both-walking j w o o′) = refl
   step-answer (imageOf v) h d = absurd (false≢true h)
+  step-answer shortest h (both-early p) = refl
+  step-answer shortest h (both-walking j w o o′) = refl
 
   module _ (picks : Call W → Bool) where
     -- the answers to the calls that are picked
@@ -140,6 +149,7 @@ module _ (W : World) where
   hand-out-independent clear h = refl
   hand-out-independent plain h = refl
   hand-out-independent (imageOf v) h = absurd (false≢true h)
+  hand-out-independent shortest h = refl
 
   -- two lists that are alike without their operator readings get the same answers and points from their hand-outs
   pub alike-hand-outs : (cs ds : List (Call W)) → struck cs ≡ struck ds → picked isHandOut (fresh W) cs ≡ picked isHandOut (fresh W) ds

@@ -6,7 +6,7 @@ use mathlib.Core.List.{List, [], _∷_}
 use lib.IntN.{ℤ}
 use Rattle.ranks.specs.Rest.{Place, at, ended}
 use Rattle.calls.specs.Session.{World, Reading, refuse, accept, Stage}
-use Rattle.calls.specs.Session.{Call, reading, handOut, rewind, clear, plain, imageOf, Answer, refused, taken, handed, done, says, isRefused, lent}
+use Rattle.calls.specs.Session.{Call, reading, handOut, rewind, clear, plain, imageOf, shortest, Answer, refused, taken, handed, done, says, best, isRefused, lent}
 use Rattle.calls.specs.Session.{Session, early, walking, joined, remembered, step, answers, after}
 
 module _ (W : World) where
@@ -38,12 +38,14 @@ module _ (W : World) where
   refused-same rewind (early p) h = refl
   refused-same plain (early p) h = refl
   refused-same (imageOf v) (early p) h = refl
+  refused-same shortest (early p) h = refl
   refused-same (reading b) (walking j w o) h = remembered-same j w o (readOperator b) h
   refused-same (handOut l) (walking j ended o) h = refl
   refused-same (handOut l) (walking j (at p) o) h = cc
   refused-same rewind (walking j w o) h = cc
   refused-same plain (walking j w o) h = refl
   refused-same (imageOf v) (walking j w o) h = refl
+  refused-same shortest (walking j w o) h = refl
 
   -- and the lent list
   pub refused-lent : (a : Answer W) (l : List ℤ) → isRefused W a ≡ true → lent W a l ≡ l
@@ -52,6 +54,7 @@ module _ (W : World) where
   refused-lent (handed n e l′) l h = cc
   refused-lent done l h = refl
   refused-lent (says b) l h = refl
+  refused-lent (best b) l h = refl
 
   pub record NotMade (s : Session W) (cs : List (Call W)) : Type 0 where
     pub same-answers : answers W s (unrefused s cs) ≡ granted (answers W s cs)

@@ -6,7 +6,7 @@ use mathlib.Core.List.{List, [], _∷_}
 use Prim.Native.Nat.{ℕ}
 use Rattle.ranks.specs.Rest.{Place, at, ended}
 use Rattle.calls.specs.Session.{World, Reading, refuse, accept, Stage, part, whole, isOperator}
-use Rattle.calls.specs.Session.{Call, reading, handOut, rewind, clear, plain, imageOf, Answer, refused, taken, handed, done, says}
+use Rattle.calls.specs.Session.{Call, reading, handOut, rewind, clear, plain, imageOf, shortest, Answer, refused, taken, handed, done, says, best}
 use Rattle.calls.specs.Session.{Session, early, walking, fresh, joined, remembered, step, after}
 use Rattle.calls.specs.Since.{Exchange, exchanges}
 
@@ -26,6 +26,10 @@ module _ (W : World) where
   pub image-same : (v : Point) (s : Session W) → (step W (imageOf v) s) .1 ≡ s
   image-same v (early p) = refl
   image-same v (walking j w o) = refl
+
+  pub shortest-same : (s : Session W) → (step W shortest s) .1 ≡ s
+  shortest-same (early p) = refl
+  shortest-same (walking j w o) = refl
 
   -- clearing makes the session fresh, and forgets the operator
   pub clear-fresh : (s : Session W) → (step W clear s) .1 ≡ fresh W
@@ -50,6 +54,7 @@ module _ (W : World) where
   ifTaken (handed n e l) o′ o = o
   ifTaken done o′ o = o
   ifTaken (says b) o′ o = o
+  ifTaken (best b) o′ o = o
 
   abbrev pub noted : Call W → Answer W → Operator → Operator
   noted (reading b) a o = cond (isOperator b) (ifTaken a (accepted o (readOperator b)) o) o
@@ -58,6 +63,7 @@ module _ (W : World) where
   noted clear a o = identity
   noted plain a o = o
   noted (imageOf v) a o = o
+  noted shortest a o = o
 
   abbrev pub lastAccepted : Operator → List (Exchange W) → Operator
   lastAccepted o [] = o
@@ -88,12 +94,14 @@ module _ (W : World) where
   notes rewind (early p) = refl
   notes plain (early p) = refl
   notes (imageOf v) (early p) = refl
+  notes shortest (early p) = refl
   notes (reading b) (walking j w o) = notes-operator b j w o (isOperator b) refl (readOperator b) refl
   notes (handOut l) (walking j ended o) = refl
   notes (handOut l) (walking j (at p) o) = refl
   notes rewind (walking j w o) = refl
   notes plain (walking j w o) = refl
   notes (imageOf v) (walking j w o) = refl
+  notes shortest (walking j w o) = refl
 
   last-by : (cs : List (Call W)) (s : Session W) → operatorOf (after W s cs) ≡ lastAccepted (operatorOf s) (exchanges W s cs)
   last-by [] s = refl

@@ -2,12 +2,14 @@
 -- They know no place and no operator: only the job, the total and the end.
 use mathlib.Core.Bool.{Bool, true, false}
 use mathlib.Core.List.{List, [], _∷_}
+use mathlib.Core.Option.{Option}
+use mathlib.Core.Option as O
 use Prim.Native.Nat.{ℕ, zero, suc, _+_, _-_, min}
 use lib.IntN.{ℤ}
 use lib.ListN.{length, take, drop}
 use Rattle.ranks.specs.Handed.{put}
 use Rattle.calls.specs.Session.{World, Reading, refuse, accept, Stage, part, whole}
-use Rattle.calls.specs.Session.{Call, reading, handOut, rewind, clear, plain, imageOf, Answer, refused, taken, handed, done, says, full, space}
+use Rattle.calls.specs.Session.{Call, reading, handOut, rewind, clear, plain, imageOf, shortest, Answer, refused, taken, handed, done, says, best, full, space}
 
 -- what the rules say of a call: refused with its number; a hand-out's count, end and slice; or not refused
 pub data Verdict : Type 0 where
@@ -20,7 +22,7 @@ isZero zero = true
 isZero (suc n) = false
 
 module _ (W : World) where
-  open World W using (Parts, Job, Operator, none, readPart, readOperator, coords)
+  open World W using (Parts, Job, Operator, Best, none, readPart, readOperator, coords, least)
 
   -- what an answer shows of it
   abbrev pub verdict : Answer W → Verdict
@@ -29,6 +31,7 @@ module _ (W : World) where
   verdict (handed n e l) = handing n e l
   verdict done = passed
   verdict (says b) = passed
+  verdict (best b) = passed
 
   pub record Tally : Type 0 where
     pub job : Stage Parts Job
@@ -69,6 +72,11 @@ module _ (W : World) where
   handRule j l total true = (refusal 10, record { job = whole j; total = total; end = true })
   handRule j l total false = deal j total l (min (space W l) (left j total))
 
+  -- Shortest: refused 14 where there is none
+  abbrev pub findRule : Option Best → Verdict
+  findRule O.none = refusal 14
+  findRule (O.some b) = passed
+
   abbrev pub ruleAt : Call W → Stage Parts Job → Tally → Ruling
   -- Clearing: as at the start
   ruleAt clear j t = (passed, begin)
@@ -86,6 +94,9 @@ module _ (W : World) where
   ruleAt plain (whole j) t = (passed, t)
   ruleAt (imageOf v) (part p) t = (refusal 9, t)
   ruleAt (imageOf v) (whole j) t = (passed, t)
+  -- Shortest: refused 9 until then; either way nothing changes
+  ruleAt shortest (part p) t = (refusal 9, t)
+  ruleAt shortest (whole j) t = (findRule (least j), t)
 
   abbrev pub rule : Call W → Tally → Ruling
   rule c t = ruleAt c (t .job) t

@@ -1,8 +1,10 @@
--- A session and the six kinds of calls: SPEC, "Walk" and "Calls". The records' parser, the test of points and the operators
--- are parameters.
+-- A session and the seven kinds of calls: SPEC, "Walk" and "Calls". The records' parser, the test of points, the operators
+-- and the search for the shortest pattern are parameters.
 use mathlib.Core.Path.{_≡_}
 use mathlib.Core.Bool.{Bool, true, false, not}
 use mathlib.Core.List.{List, [], _∷_}
+use mathlib.Core.Option.{Option}
+use mathlib.Core.Option as O
 use Prim.Native.Nat.{ℕ, _/_}
 use lib.Dec.{eqb}
 use lib.IntN.{ℤ}
@@ -30,6 +32,7 @@ pub record World : Type 1 where
   pub Job : Type 0
   pub Operator : Type 0
   pub Point : Type 0
+  pub Best : Type 0
   -- no job record; the operator that is remembered if none was accepted
   pub none : Parts
   pub identity : Operator
@@ -41,13 +44,15 @@ pub record World : Type 1 where
   pub top : ℕ
   pub coords : ℕ → List ℤ
   pub image : Job → Operator → Point → Bool
+  -- the shortest pattern of a job, if there is one: SPEC, "Shortest pattern"
+  pub least : Job → Option Best
   pub four : (r : ℕ) → length (coords r) ≡ 4
   -- the turn: operators come after scale, A and B, and nothing else does
   pub turn-part : (b : List ℕ) (p : Parts) → isOperator b ≡ true → (r : ℕ) × (readPart b p ≡ refuse r)
   pub turn-operator : (b : List ℕ) → isOperator b ≡ false → (r : ℕ) × (readOperator b ≡ refuse r)
 
 module _ (W : World) where
-  open World W using (Parts, Job, Operator, Point, none, identity, readPart, readOperator, test, top, coords, image)
+  open World W using (Parts, Job, Operator, Point, Best, none, identity, readPart, readOperator, test, top, coords, image, least)
 
   pub data Call : Type 0 where
     reading : List ℕ → Call
@@ -56,6 +61,7 @@ module _ (W : World) where
     clear : Call
     plain : Call
     imageOf : Point → Call
+    shortest : Call
 
   -- a hand-out answers its count, its end, and the lent slice as it is then
   pub data Answer : Type 0 where
@@ -64,6 +70,7 @@ module _ (W : World) where
     handed : ℕ → Bool → List ℤ → Answer
     done : Answer
     says : Bool → Answer
+    best : Best → Answer
 
   -- before scale, A and B are all there, and then with the place of the walk and the remembered operator
   pub data Session : Type 0 where
@@ -102,6 +109,10 @@ module _ (W : World) where
     walking j (placeOf (drop (space l) left)) o,
   )
 
+  abbrev pub found : Option Best → Answer
+  found O.none = refused 14
+  found (O.some b) = best b
+
   abbrev pub step : Call → Session → Outcome
   step clear s = (done, fresh)
   step (reading b) (early p) = joined p (readPart b p)
@@ -109,12 +120,14 @@ module _ (W : World) where
   step rewind (early p) = (refused 9, early p)
   step plain (early p) = (refused 9, early p)
   step (imageOf v) (early p) = (refused 9, early p)
+  step shortest (early p) = (refused 9, early p)
   step (reading b) (walking j w o) = remembered j w o (readOperator b)
   step (handOut l) (walking j ended o) = (refused 10, walking j ended o)
   step (handOut l) (walking j (at p) o) = given j o l (rest (test j) top p)
   step rewind (walking j w o) = (done, walking j (at 0) o)
   step plain (walking j w o) = (says (not (isNil (full j))), walking j w o)
   step (imageOf v) (walking j w o) = (says (image j o v), walking j w o)
+  step shortest (walking j w o) = (found (least j), walking j w o)
 
   -- the first call finds a fresh session, every other one what the call before it left: the answers, and the session that is left
   abbrev pub answers : Session → List Call → List Answer
@@ -131,6 +144,7 @@ module _ (W : World) where
   isRefused (handed n e l) = false
   isRefused done = false
   isRefused (says b) = false
+  isRefused (best b) = false
 
   -- a lent slice as a call leaves it
   abbrev pub lent : Answer → List ℤ → List ℤ
@@ -139,3 +153,4 @@ module _ (W : World) where
   lent (handed n e l′) l = l′
   lent done l = l
   lent (says b) l = l
+  lent (best b) l = l

@@ -4,7 +4,7 @@ use mathlib.Core.List.{List, [], _∷_, _++_}
 use Prim.Native.Nat.{ℕ, _+_, _*_}
 use lib.IntN.{ℤ}
 use lib.ListN.{take, drop}
-use Rattle.calls.specs.Session.{World, Call, reading, handOut, rewind, clear, plain, imageOf, Answer, refused, taken, handed, done, says}
+use Rattle.calls.specs.Session.{World, Call, reading, handOut, rewind, clear, plain, imageOf, shortest, Answer, refused, taken, handed, done, says, best}
 use Rattle.calls.specs.Session.{full, space, Session, early, walking, fresh, step, after, isRefused}
 
 module _ (W : World) where
@@ -23,6 +23,7 @@ module _ (W : World) where
   restarts clear a = not (isRefused W a)
   restarts plain a = false
   restarts (imageOf v) a = false
+  restarts shortest a = false
 
   -- since the last rewind or clearing that was not refused, or the start of the list: what of seen and then xs has come since then
   abbrev pub sinceAfter : List Exchange → List Exchange → List Exchange
@@ -39,6 +40,7 @@ module _ (W : World) where
   written (handed n e l) = take (4 * n) l
   written done = []
   written (says b) = []
+  written (best b) = []
 
   abbrev pub points : List Exchange → List ℤ
   points [] = []
@@ -52,6 +54,7 @@ module _ (W : World) where
   lentSpace clear a = 0
   lentSpace plain a = 0
   lentSpace (imageOf v) a = 0
+  lentSpace shortest a = 0
 
   abbrev pub spaces : List Exchange → ℕ
   spaces [] = 0

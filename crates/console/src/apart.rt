@@ -258,12 +258,16 @@ fn quotient(q: Quotient) -> Value {
 }
 
 fn coordinates(v: Point) -> Value {
-    Value::Four(WidePoint {
+    Value::Four(widened(v))
+}
+
+pub fn widened(v: Point) -> WidePoint {
+    WidePoint {
         a: put::wide(v.a),
         b: put::wide(v.b),
         c: put::wide(v.c),
         d: put::wide(v.d),
-    })
+    }
 }
 
 // The elements and the operator that have names.

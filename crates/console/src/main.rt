@@ -121,6 +121,7 @@ fn answered(s: Session, c: usize, n: Numbers, numbers: &mut [i32]) -> Reply {
         wording::REWIND => steps::alone(s, c, n),
         wording::CLEAR => steps::alone(s, c, n),
         wording::PLAIN => steps::alone(s, c, n),
+        wording::SHORTEST => steps::alone(s, c, n),
         wording::PROPOSE => steps::alone(s, c, n),
         wording::IMAGE => steps::same(s, steps::image(s, n)),
         wording::LINE => steps::same(s, apart::line(n, numbers)),

@@ -19,6 +19,8 @@ pub enum Value {
     Two(i64, i64),
     Four(WidePoint),
     Eight(WidePoint, WidePoint),
+    // A scale and two points.
+    Pattern(u64, WidePoint, WidePoint),
     // A hand-out: its count, its end, and how many numbers it has.
     Handed(usize, bool, usize),
 }
@@ -54,6 +56,7 @@ fn put_value(out: &mut [u8], at: usize, v: Value, numbers: &[i32]) -> usize {
         Value::Two(p, q) => two(out, at, p, q),
         Value::Four(w) => four(out, at, w),
         Value::Eight(v, w) => eight(out, at, v, w),
+        Value::Pattern(k, u, t) => pattern(out, at, k, u, t),
         Value::Handed(count, ended, n) => handed(out, at, count, ended, numbers, n),
     }
 }
@@ -94,6 +97,11 @@ fn four(out: &mut [u8], at: usize, w: WidePoint) -> usize {
 fn eight(out: &mut [u8], at: usize, v: WidePoint, w: WidePoint) -> usize {
     let at = four(out, at, v);
     four(out, at, w)
+}
+
+fn pattern(out: &mut [u8], at: usize, k: u64, u: WidePoint, t: WidePoint) -> usize {
+    let at = unsigned(out, at, k);
+    eight(out, at, u, t)
 }
 
 fn handed(

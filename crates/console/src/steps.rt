@@ -44,6 +44,11 @@ fn answered(a: Answer) -> Line {
         Answer::Says(yes) => Line::Good(Value::Says(yes)),
         Answer::Refused(f) => Line::Refused(f),
         Answer::Done => Line::Good(Value::Nothing),
+        Answer::Least(k, u, t) => Line::Good(Value::Pattern(
+            k as u64,
+            apart::widened(u),
+            apart::widened(t),
+        )),
         Answer::Handed(count, ended) => Line::Good(Value::Handed(
             count,
             ended,
@@ -109,7 +114,7 @@ fn hand_out(s: Session, space: &mut [i32], k: usize) -> Reply {
     replied(held::hand_out(s, &mut space[..k]))
 }
 
-// `rewind`, `clear`, `plain`, `propose`, without a number.
+// `rewind`, `clear`, `plain`, `shortest`, `propose`, without a number.
 pub fn alone(s: Session, c: usize, n: Numbers) -> Reply {
     if n.count != 0 {
         return same(s, Line::Bad);
@@ -118,6 +123,7 @@ pub fn alone(s: Session, c: usize, n: Numbers) -> Reply {
         wording::REWIND => replied(held::rewind(s)),
         wording::CLEAR => replied(held::clear(s)),
         wording::PLAIN => same(s, answered(held::has_solution(s))),
+        wording::SHORTEST => same(s, answered(held::shortest(s))),
         _ => same(s, propose(s)),
     }
 }

@@ -1,6 +1,6 @@
 // A session of one's own, lent to the calls of the bench: each takes the session, lends it for the call, and has it back with the answer.
 ghost use mathlib.Core.List.{[]};
-ghost use Rattle.calls.specs.Session.{reading, rewind as rewinding, clear as clearing, plain, imageOf};
+ghost use Rattle.calls.specs.Session.{reading, rewind as rewinding, clear as clearing, plain, imageOf, shortest as shortestOf};
 ghost use Rattle.session.specs.Session.{Steps, Hands};
 use ring::Point;
 use session::Answer;
@@ -61,4 +61,10 @@ pub fn has_image(s: Session, w: Point) -> Answer
     ensures { λ r. ⌜ Steps (imageOf w) [] s s r ⌝ }
 {
     bench::has_image(&s, w)
+}
+
+pub fn shortest(s: Session) -> Answer
+    ensures { λ r. ⌜ Steps shortestOf [] s s r ⌝ }
+{
+    bench::shortest(&s)
 }

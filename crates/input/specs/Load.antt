@@ -6,7 +6,7 @@ use Prim.Native.Nat.{ℕ, zero, suc, _+_, _≤_}
 use lib.Dec.{ltb}
 use lib.ListN.{length, drop}
 use Rattle.record.specs.Record.{number}
-use Rattle.calls.specs.Session.{reading, taken, handed, done, says, early, walking, step}
+use Rattle.calls.specs.Session.{reading, taken, handed, done, says, best, early, walking, step}
 use Rattle.calls.specs.Session as Model
 use Rattle.session.specs.World.{world}
 use Rattle.session.specs.Session.{meaning, fresh}
@@ -36,6 +36,7 @@ onward next m at (taken n, t) = next n t
 onward next m at (handed n e l, t) = finished m at
 onward next m at (done, t) = finished m at
 onward next m at (says b, t) = finished m at
+onward next m at (best b, t) = finished m at
 
 -- the records from a place on; as each takes a byte at least, there are no more than bytes
 unfoldable pub records : ℕ → Model.Session world → ℕ → List ℕ → Loaded

@@ -50,6 +50,9 @@ fn records(bytes: &[u8]) -> Input
             Answer::Says(_) => {
                 return finished(s, at);
             }
+            Answer::Least(_, _, _) => {
+                return finished(s, at);
+            }
         }
         s = o.session;
     }

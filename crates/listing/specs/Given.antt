@@ -12,7 +12,7 @@ use Rattle.ranks.specs.Rank.{top}
 use Rattle.ranks.specs.Handed.{flat, put, take-put}
 use Rattle.cuts.specs.Digits.{span}
 use Rattle.walk.specs.Walk.{listedAt, numbersOf}
-use Rattle.calls.specs.Session.{handOut, refused, taken, handed, done, says, early, walking, step}
+use Rattle.calls.specs.Session.{handOut, refused, taken, handed, done, says, best, early, walking, step}
 use Rattle.calls.specs.Session as Model
 use Rattle.session.specs.World.{world}
 use Rattle.listing.specs.Lines.{Paging, linesOf, pageOf}
@@ -24,6 +24,7 @@ isHanded (taken n) = false
 isHanded (handed n e l) = true
 isHanded done = false
 isHanded (says b) = false
+isHanded (best b) = false
 
 first : {o q : Model.Outcome world} → o ≡ q → o .0 ≡ q .0
 first e = ap (λ (o : Model.Outcome world). o .0) e

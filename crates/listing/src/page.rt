@@ -70,6 +70,7 @@ fn filled(s: Session, points: &mut [i32], out: &mut [u8]) -> Page
         Answer::Taken(_) => nothing(s),
         Answer::Done => nothing(s),
         Answer::Says(_) => nothing(s),
+        Answer::Least(_, _, _) => nothing(s),
     }
 }
 

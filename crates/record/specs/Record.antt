@@ -26,7 +26,7 @@ use Rattle.record.specs.declared.Turn.the-variants as T
 use Rattle.record.specs.declared.Record.{Record}
 use Rattle.record.specs.declared.Record.the-variants as Rec
 use Rattle.record.specs.declared.Refusal.{Refusal}
-use Rattle.record.specs.declared.Refusal.the-variants.{NoKind, UnknownKind, Short, OutOfRange, NotPositive, OddParity, NotSpecial, OutOfTurn, NoJob, Ended, NoDirection}
+use Rattle.record.specs.declared.Refusal.the-variants.{NoKind, UnknownKind, Short, OutOfRange, NotPositive, OddParity, NotSpecial, OutOfTurn, NoJob, Ended, NoDirection, NoPattern}
 use Rattle.record.specs.declared.Admission.{Admission}
 use Rattle.record.specs.declared.Admission.the-variants as A
 use Rattle.record.specs.declared.Reading.{Reading}
@@ -46,6 +46,7 @@ number OutOfTurn = 8
 number NoJob = 9
 number Ended = 10
 number NoDirection = 11
+number NoPattern = 14
 
 -- ---- kinds, with the length of the body
 abbrev pub pickKind : Bool → Kind → Kind → Kind

@@ -56,6 +56,7 @@ pub enum Refusal {
     NoJob,
     Ended,
     NoDirection,
+    NoPattern,
 }
 
 impl Refusal {
@@ -74,6 +75,7 @@ impl Refusal {
             Refusal::NoJob => 9,
             Refusal::Ended => 10,
             Refusal::NoDirection => 11,
+            Refusal::NoPattern => 14,
         }
     }
 }

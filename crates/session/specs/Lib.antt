@@ -8,3 +8,4 @@ pub mod Remembered
 pub mod Run
 pub mod RunCalls
 pub mod RunWalk
+pub mod Shortest

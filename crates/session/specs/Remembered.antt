@@ -18,7 +18,7 @@ use Rattle.record.specs.declared.Kind.the-variants as K
 use Rattle.record.specs.declared.Turn.the-variants as T
 use Rattle.record.specs.Record.{readingOf, kindOf, kindReading, admissionOf, bodyOf, operatorOf as fieldsOf, operatorReading as checked}
 use Rattle.ranks.specs.Rest.{Place, at, ended}
-use Rattle.calls.specs.Session.{Reading, refuse, accept, Stage, part, whole, Call, reading, handOut, rewind, clear, plain, imageOf}
+use Rattle.calls.specs.Session.{Reading, refuse, accept, Stage, part, whole, Call, reading, handOut, rewind, clear, plain, imageOf, shortest}
 use Rattle.calls.specs.Session.{early, walking, joined, remembered, step, after}
 use Rattle.calls.specs.Session as Model
 use Rattle.calls.specs.Remembered.{operatorOf}
@@ -80,12 +80,14 @@ keeps (handOut l) (early p) h = h
 keeps rewind (early p) h = h
 keeps plain (early p) h = h
 keeps (imageOf v) (early p) h = h
+keeps shortest (early p) h = h
 keeps (reading b) (walking j w o) h = notes b j w o h (operatorReading (readingOf b T.Operators)) refl
 keeps (handOut l) (walking j ended o) h = h
 keeps (handOut l) (walking j (at p) o) h = h
 keeps rewind (walking j w o) h = h
 keeps plain (walking j w o) h = h
 keeps (imageOf v) (walking j w o) h = h
+keeps shortest (walking j w o) h = h
 
 all-tested : (cs : List (Call world)) (s : Model.Session world) → Tested s → Tested (after world s cs)
 all-tested [] s h = h

@@ -5,7 +5,7 @@ use mathlib.Core.List.{List, [], _∷_, _++_, map}
 use Prim.Native.Nat.{ℕ}
 use lib.IntN.{ℤ}
 use Rattle.ring.specs.declared.Point.{Point}
-use Rattle.calls.specs.Session.{Call, reading, handOut, rewind, clear, plain, imageOf, step, answers, after}
+use Rattle.calls.specs.Session.{Call, reading, handOut, rewind, clear, plain, imageOf, shortest, step, answers, after}
 use Rattle.calls.specs.Session as Model
 use Rattle.calls.specs.Since.{Exchange, exchanges, sinceAfter}
 use Rattle.session.specs.declared.Session.{Session}
@@ -19,7 +19,7 @@ pub record Made : Type 0 where
   pub answer : Answer
   pub slice : List ℤ
 
--- the contracts of `read`, `hand_out`, `rewind`, `clear`, `has_solution`, `has_image`: the session found, the call, the session left
+-- the contracts of `read`, `hand_out`, `rewind`, `clear`, `has_solution`, `has_image`, `shortest`: the session found, the call, the session left
 pub data Link : Session → Made → Session → Type 0 where
   read : {s t : Session} {a : Answer} (bytes : List ℕ) → Steps (reading bytes) [] s t a → Link s (record { call = reading bytes; answer = a; slice = [] }) t
   hand-out : {s t : Session} {a : Answer} {new : List ℤ} (old : List ℤ) → Hands s old new t a → Link s (record { call = handOut old; answer = a; slice = new }) t
@@ -27,6 +27,7 @@ pub data Link : Session → Made → Session → Type 0 where
   cleared : {s t : Session} {a : Answer} → Steps clear [] s t a → Link s (record { call = clear; answer = a; slice = [] }) t
   has-solution : {s : Session} {a : Answer} → Steps plain [] s s a → Link s (record { call = plain; answer = a; slice = [] }) s
   has-image : {s : Session} {a : Answer} (w : Point) → Steps (imageOf w) [] s s a → Link s (record { call = imageOf w; answer = a; slice = [] }) s
+  least : {s : Session} {a : Answer} → Steps shortest [] s s a → Link s (record { call = shortest; answer = a; slice = [] }) s
 
 -- calls from a session on, and the session that the last one left
 pub data From : Session → List Made → Session → Type 0 where
@@ -64,6 +65,7 @@ link-steps (rewound e) = e
 link-steps (cleared e) = e
 link-steps (has-solution e) = e
 link-steps (has-image w e) = e
+link-steps (least e) = e
 
 module _ {s t : Session} {m : Made} (k : Link s m t) where
   pub link-answer : answered m ≡ step world (m .call) (meaning s) .0

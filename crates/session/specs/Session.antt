@@ -20,7 +20,7 @@ use Rattle.walk.specs.declared.Spot.the-variants as P
 use Rattle.cuts.specs.Digits.{span}
 use Rattle.walk.specs.Walk.{listedAt, numbersOf, spotOf}
 use Rattle.walk.specs.Hand.{gave-none}
-use Rattle.calls.specs.Session.{Call, handOut, refused, taken, handed, done, says, early, walking, joined, remembered, given, step, reading, lent}
+use Rattle.calls.specs.Session.{Call, handOut, refused, taken, handed, done, says, best, early, walking, joined, remembered, given, step, reading, lent}
 use Rattle.calls.specs.Session as Model
 use Rattle.session.specs.declared.Course.{Course}
 use Rattle.session.specs.declared.Parts.the-variants.{Nothing}
@@ -54,6 +54,7 @@ answerOf l (A.Taken n) = taken n
 answerOf l (A.Handed n e) = handed n e l
 answerOf l A.Done = done
 answerOf l (A.Says b) = says b
+answerOf l (A.Least k u t) = best (record { scale = k; u = u; t = t })
 answerOf l (A.Refused f) = refused (number f)
 
 abbrev pub outcome : List ℤ → Session → Answer → Model.Outcome world

@@ -3,6 +3,8 @@ use Rattle.record.specs.Record.{number, readingOf, kindOf, pickKind, kindReadin
 use mathlib.Core.Path.{_≡_, refl, subst⁻¹}
 use mathlib.Core.Bool.{Bool, true, false, false≢true}
 use mathlib.Core.List.{List, [], _∷_}
+use mathlib.Core.Option.{Option}
+use mathlib.Core.Option as O
 use Prim.Native.Nat.{ℕ}
 use lib.Dec.{T, eqb, eqb→eq}
 use Rattle.ring.specs.declared.Point.{Point}
@@ -25,6 +27,9 @@ use Rattle.record.specs.declared.Reading.the-variants as RV
 use Rattle.ranks.specs.Rank.{top}
 use Rattle.cuts.specs.Digits.{span}
 use Rattle.walk.specs.Walk.{listedAt, numbersOf}
+use Rattle.shortest.specs.declared.Pattern.{Pattern}
+use Rattle.shortest.specs.declared.Pattern.the-variants as S
+use Rattle.shortest.specs.Pattern.{patternOf}
 use Rattle.calls.specs.Session.{World, Reading, refuse, accept, Stage, part, whole, isOperator}
 use Rattle.session.specs.declared.Parts.{Parts}
 use Rattle.session.specs.declared.Parts.the-variants.{Nothing, Scaled, Selected, First}
@@ -84,6 +89,16 @@ undone j (I.Refused c) w = false
 unfoldable pub isImage : Job → Operator → Point → Bool
 isImage j g w = undone j (inverseOf g) w
 
+-- the shortest pattern: its scale, u and t
+pub record Best : Type 0 where
+  pub scale : ℕ
+  pub u : Point
+  pub t : Point
+
+abbrev pub bestOf : Pattern → Option Best
+bestOf (S.Found k u t) = O.some (record { scale = k; u = u; t = t })
+bestOf S.Missing = O.none
+
 -- ---- out of turn
 -- an operator's bytes before its turn
 pub part-refuses : (b : List ℕ) (p : Parts) → isOperator b ≡ true → partReading p (readingOf b (turnAt p)) ≡ refuse 8
@@ -118,6 +133,7 @@ world = record {
   Job = Job;
   Operator = Operator;
   Point = Point;
+  Best = Best;
   none = Nothing;
   identity = identity;
   readPart = λ b p. partReading p (readingOf b (turnAt p));
@@ -126,6 +142,7 @@ world = record {
   top = top span;
   coords = numbersOf;
   image = isImage;
+  least = λ j. bestOf (patternOf j);
   four = λ r. refl;
   turn-part = λ b p h. (8, part-refuses b p h);
   turn-operator = operator-refuses;

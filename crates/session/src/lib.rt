@@ -1,9 +1,9 @@
 // A session and its calls, by value: SPEC, "Walk" and "Calls". Each call's contract is one step of the model in `calls`.
 ghost use mathlib.Core.Path.{_≡_};
 ghost use mathlib.Core.List.{[]};
-ghost use Rattle.calls.specs.Session.{reading, handOut, rewind, clear, plain, imageOf};
-ghost use Rattle.session.specs.World.{turnAt};
-ghost use Rattle.session.specs.Session.{fresh, turnOf, Steps, Hands};
+ghost use Rattle.calls.specs.Session.{reading, handOut, rewind, clear, plain, imageOf, shortest, found};
+ghost use Rattle.session.specs.World.{world, bestOf, turnAt};
+ghost use Rattle.session.specs.Session.{fresh, turnOf, answerOf, Steps, Hands};
 
 mod hand;
 mod image;
@@ -17,6 +17,7 @@ use record::Turn;
 use region::Job;
 use region::Region;
 use ring::Point;
+use shortest::Pattern;
 use walk::Spot;
 
 // A job with the place of its walk and the operator that is remembered.
@@ -44,12 +45,13 @@ pub struct Session {
     pub stage: Stage,
 }
 
-// What a call answers: a reading the bytes taken, a hand-out its count and whether the end is reached, a question yes or no.
+// What a call answers: a reading the bytes taken, a hand-out its count and whether the end is reached, a question yes or no, the shortest pattern its scale, u and t.
 pub enum Answer {
     Taken(usize),
     Handed(usize, bool),
     Done,
     Says(bool),
+    Least(u8, Point, Point),
     Refused(Refusal),
 }
 
@@ -161,5 +163,25 @@ pub fn has_image(s: Session, w: Point) -> Answer
     match g {
         Stage::Early(_) => Answer::Refused(Refusal::NoJob),
         Stage::Walking(c) => Answer::Says(image::is_image(c.job, c.operator, w)),
+    }
+}
+
+// The shortest pattern that the job allows: the least scale that has one, and there the first u and its first t.
+pub fn shortest(s: Session) -> Answer
+    ensures { λ r. ⌜ Steps shortest [] s s r ⌝ }
+{
+    let g = s.stage;
+    match g {
+        Stage::Early(_) => Answer::Refused(Refusal::NoJob),
+        Stage::Walking(c) => least(shortest::of_job(c.job)),
+    }
+}
+
+fn least(p: Pattern) -> Answer
+    ensures { λ r. ⌜ answerOf [] r ≡ found world (bestOf p) ⌝ }
+{
+    match p {
+        Pattern::Found(k, u, t) => Answer::Least(k, u, t),
+        Pattern::Missing => Answer::Refused(Refusal::NoPattern),
     }
 }

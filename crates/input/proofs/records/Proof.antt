@@ -128,6 +128,15 @@ finished-requires-3 c κs = search needs
 returns-4 : tie.Need-returns-4 Inv-loop μ-loop
 returns-4 c = let r = c .before .before .before in c .finished3 .ensures ∙ stop r _ (c .before .enum-told3 .given .1) _ (λ f. refl)
 
+enum-told-4 : tie.Need-enum-told-4 Inv-loop μ-loop
+enum-told-4 c = search needs
+
+finished-requires-4 : tie.Need-finished-requires-4 Inv-loop μ-loop
+finished-requires-4 c κs = search needs
+
+returns-5 : tie.Need-returns-5 Inv-loop μ-loop
+returns-5 c = let r = c .before .before .before in c .finished4 .ensures ∙ stop r _ (c .before .enum-told4 .given .1) _ (λ f. refl)
+
 loop-less : tie.Need-loop-less Inv-loop μ-loop
 loop-less c = let w = within (c .before) in omega arith
 
@@ -141,14 +150,14 @@ loop-again c =
     let n = records-take (meaning (here r .loop .s)) (at r) (bytes r) (r .before .before .loop-test .taken) (i .0) (i .1) (took k) (meaning (r .read .result .session)) (found r _ (k .before .a .given .1)) in
     (omega arith, (n .0, n .1, n .2 ∙ i .2))
 
-finished-requires-4 : tie.Need-finished-requires-4 Inv-loop μ-loop
-finished-requires-4 c κs = search needs
+finished-requires-5 : tie.Need-finished-requires-5 Inv-loop μ-loop
+finished-requires-5 c κs = search needs
 
-returns-5 : tie.Need-returns-5 Inv-loop μ-loop
-returns-5 c =
+returns-6 : tie.Need-returns-6 Inv-loop μ-loop
+returns-6 c =
     let l = c .before .before in
     let i = l .loop .inv .1 in
-    c .finished4 .ensures
+    c .finished5 .ensures
     ∙ sym (records-end (i .0) (meaning (l .loop .s)) (l .loop .at) (l .before .before .before .args .bytes .now) (c .before .loop-test .left))
     ∙ i .2
 
@@ -177,7 +186,10 @@ records-spec =
     enum-told-3
     finished-requires-3
     returns-4
+    enum-told-4
+    finished-requires-4
+    returns-5
     loop-less
     loop-again
-    finished-requires-4
-    returns-5)
+    finished-requires-5
+    returns-6)

@@ -103,6 +103,12 @@ enum-told-4 c = search needs
 nothing-requires-4 : tie.Need-nothing-requires-4
 nothing-requires-4 c κs = search needs
 
+enum-told-5 : tie.Need-enum-told-5
+enum-told-5 c = search needs
+
+nothing-requires-5 : tie.Need-nothing-requires-5
+nothing-requires-5 c κs = search needs
+
 same-length : tie.Need-same-length
 same-length c = search needs
 
@@ -148,6 +154,12 @@ same-length-6 c = search needs
 returns-5 : tie.Need-returns-5
 returns-5 c = let e = c .before in empty (e .before .before .before) _ (e .enum-told4 .given .1) refl (c .nothing4 .result) (c .nothing4 .ensures)
 
+same-length-7 : tie.Need-same-length-7
+same-length-7 c = search needs
+
+returns-6 : tie.Need-returns-6
+returns-6 c = let e = c .before in empty (e .before .before .before) _ (e .enum-told5 .given .1) refl (c .nothing5 .result) (c .nothing5 .ensures)
+
 pub filled-spec : {M : Type 1} → statement M
 filled-spec =
     tie.close
@@ -164,6 +176,8 @@ filled-spec =
     nothing-requires-3
     enum-told-4
     nothing-requires-4
+    enum-told-5
+    nothing-requires-5
     same-length
     same-length-2
     returns
@@ -174,4 +188,6 @@ filled-spec =
     same-length-5
     returns-4
     same-length-6
-    returns-5)
+    returns-5
+    same-length-7
+    returns-6)

@@ -1,0 +1,35 @@
+use mathlib.Core.Path.{refl, ap, _∙_}
+use Rattle.calls.specs.Session.{found}
+use Rattle.session.specs.World.{world, bestOf}
+use borrow.Author.Needs.{needs}
+use Rattle.session.proofs.shortest.Statement.{statement}
+use Rattle.session.proofs.shortest.Tie as tie
+
+enum-told : tie.Need-enum-told
+enum-told c = search needs
+
+enum-known-g : tie.Need-enum-known-g
+enum-known-g c = search needs
+
+of-job-requires : tie.Need-of-job-requires
+of-job-requires c κs = search needs
+
+least-requires : tie.Need-least-requires
+least-requires c κs = search needs
+
+returns : tie.Need-returns
+returns c = rw (c .enum-told .given .1) refl
+
+returns-2 : tie.Need-returns-2
+returns-2 c = rw (c .before .before .before .g .given .1, c .least .ensures, c .before .of-job .ensures) refl
+
+pub shortest-spec : {M : Type 1} → statement M
+shortest-spec =
+    tie.close
+    (tie.spec
+    enum-told
+    enum-known-g
+    of-job-requires
+    least-requires
+    returns
+    returns-2)
