@@ -1,0 +1,19 @@
+use borrow.Author.Needs.{needs}
+use Rattle.shortest.specs.Apart.{turned}
+use Rattle.shortest.proofs.apart.is_parted.Statement.{statement}
+use Rattle.shortest.proofs.apart.is_parted.Tie as tie
+
+ends-before-requires : tie.Need-ends-before-requires
+ends-before-requires c κs = search needs
+
+returns : tie.Need-returns
+returns c = record { none = λ e. c .before .ends-before .ensures .none (c .if1 .taken) }
+
+ends-before-requires-2 : tie.Need-ends-before-requires-2
+ends-before-requires-2 c κs = let (a, b, o) = c .before .before .pre in (a, b, turned o)
+
+returns-2 : tie.Need-returns-2
+returns-2 c = search needs
+
+pub is-parted-spec : {M : Type 1} → statement M
+is-parted-spec = tie.close (tie.spec ends-before-requires returns ends-before-requires-2 returns-2)
