@@ -68,6 +68,9 @@ pub record Opposite (u v p q : ℤ) : Type 0 where
 pub turned : {u v p q : ℤ} → Opposite u v p q → Opposite p q u v
 turned o = record { u-size = o .p-size; v-size = o .q-size; p-size = o .u-size; q-size = o .v-size; first = o .third; second = o .fourth; third = o .first; fourth = o .second }
 
+pub reach-small : (r : Region) (u v : ℤ) → accepted r ≡ true → natAbs u ≤ 1000 → natAbs v ≤ 1000 → natAbs (reachOf r u v) ≤ 2 ^ 31
+reach-small r u v a i j = reach-size r u v a (omega arith) (omega arith)
+
 -- the sizes of the sum
 pub record Sum-sizes (m h n g : ℤ) : Type 0 where
   pub first : natAbs (m *ℤ h) < 2 ^ 40
@@ -79,22 +82,20 @@ module _ (r s : Region) (u v p q : ℤ) (a : accepted r ≡ true) (b : accepted 
   sum-sizes =
       let h = reachOf r u v in
       let g = reachOf s p q in
-      let i = o .u-size in
-      let j = o .v-size in
-      let k = o .p-size in
-      let l = o .q-size in
-      let c = size-*≤ (pos (scale s)) h 100 (2 ^ 31) (scale-limits s b .1) (reach-size r u v a (omega arith) (omega arith)) in
-      let d = size-*≤ (pos (scale r)) g 100 (2 ^ 31) (scale-limits r a .1) (reach-size s p q b (omega arith) (omega arith)) in
+      let c = size-*≤ (pos (scale s)) h 100 (2 ^ 31) (scale-limits s b .1) (reach-small r u v a (o .u-size) (o .v-size)) in
+      let d = size-*≤ (pos (scale r)) g 100 (2 ^ 31) (scale-limits r a .1) (reach-small s p q b (o .p-size) (o .q-size)) in
       record { first = omega arith; second = omega arith; sum = omega (arith, size-+ (pos (scale s) *ℤ h) (pos (scale r) *ℤ g)) }
 
   pub apart-if : (t : Bool) → t ≡ ltZ (pos (scale s) *ℤ reachOf r u v +ℤ pos (scale r) *ℤ reachOf s p q) (pos 0) → Apart-if r s t
-  apart-if t f = record { none = λ e k X Y c d.
-      let i = o .u-size in
-      let j = o .v-size in
-      let x = o .p-size in
-      let y = o .q-size in
-      let over : Over s (negℤ u) (negℤ v) (reachOf s p q) = subst₂ (λ a b. Over s a b (reachOf s p q)) (o .first) (o .second) (reach-over s p q (omega arith) (omega arith)) in
-      ≺-irrefl _ _ (record { lt = subst T (sym (sym f ∙ e)) tt }) (apart r s u v (reachOf r u v) (reachOf s p q) (reach-over r u v (omega arith) (omega arith)) over k X Y c d) }
+  apart-if t f = record {
+    none = λ e k X Y c d.
+        let i = o .u-size in
+        let j = o .v-size in
+        let x = o .p-size in
+        let y = o .q-size in
+        let over : Over s (negℤ u) (negℤ v) (reachOf s p q) = subst₂ (λ a b. Over s a b (reachOf s p q)) (o .first) (o .second) (reach-over s p q (omega arith) (omega arith)) in
+        ≺-irrefl _ _ (record { lt = subst T (sym (sym f ∙ e)) tt }) (apart r s u v (reachOf r u v) (reachOf s p q) (reach-over r u v (omega arith) (omega arith)) over k X Y c d);
+  }
 
 -- ---- a job with such a region
 pub misses-a : (j : Job) {b : Bool} → Apart-if (j .a) disk b → b ≡ true → (v : Point) → qualifies j v ≡ true → ⊥

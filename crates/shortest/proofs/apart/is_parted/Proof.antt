@@ -1,3 +1,4 @@
+use mir.Facts.{toZ-ofZ}
 use borrow.Author.Needs.{needs}
 use Rattle.shortest.specs.Apart.{turned}
 use Rattle.shortest.proofs.apart.is_parted.Statement.{statement}
@@ -10,7 +11,11 @@ returns : tie.Need-returns
 returns c = record { none = λ e. c .before .ends-before .ensures .none (c .if1 .taken) }
 
 ends-before-requires-2 : tie.Need-ends-before-requires-2
-ends-before-requires-2 c κs = let (a, b, o) = c .before .before .pre in (a, b, turned o)
+ends-before-requires-2 c κs =
+    let s = c .before .before in
+    let f = s .fits in
+    let (a, b, o) = s .pre in
+    (a, b, simp (toZ-ofZ (f .u), toZ-ofZ (f .v), toZ-ofZ (f .p), toZ-ofZ (f .q)) (turned o))
 
 returns-2 : tie.Need-returns-2
 returns-2 c = search needs

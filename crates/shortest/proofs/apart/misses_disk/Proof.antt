@@ -1,4 +1,5 @@
-use mathlib.Core.Path.{sym, ap, subst, _∙_}
+use mathlib.Core.Path.{ap, subst, _∙_}
+use mathlib.Core.Bool.{true}
 use borrow.Author.Needs.{needs}
 use Rattle.region.specs.Region.{accepted}
 use Rattle.shortest.specs.Disk.{disk-accepted}
@@ -16,7 +17,7 @@ returns : tie.Need-returns
 returns c =
     let a = c .before in
     let d = a .before in
-    subst (λ s. Apart-if (d .before .args .r) s _) (d .disk .ensures) (record { none = λ e. a .are-apart .ensures .none (c .if1 .taken) })
+    subst (λ s. Apart-if (d .before .args .r) s true) (d .disk .ensures) (record { none = λ e. a .are-apart .ensures .none (c .if1 .taken) })
 
 are-apart-requires-2 : tie.Need-are-apart-requires-2
 are-apart-requires-2 c κs = search needs
