@@ -41,6 +41,7 @@ unfolding admissionOf bodyOf
 kind-special K.Scale b n o e = absurd (never _ n o e)
 kind-special K.Rectangle b n o e = absurd (never _ n o e)
 kind-special K.Ellipse b n o e = absurd (never _ n o e)
+kind-special K.Slice b n o e = absurd (never _ n o e)
 kind-special K.Selection b n o e = absurd (never _ n o e)
 kind-special K.Unknown b n o e = absurd (never _ n o e)
 kind-special K.Operator b n o e = go (ltb (length b) 16) refl e
