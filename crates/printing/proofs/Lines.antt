@@ -61,6 +61,7 @@ number-small F.NotSpecial = lit≤ tt
 number-small F.OutOfTurn = lit≤ tt
 number-small F.NoJob = lit≤ tt
 number-small F.Ended = lit≤ tt
+number-small F.NoDirection = lit≤ tt
 number-small F.NoPattern = lit≤ tt
 
 pub refusal-short : (f : Refusal) (p : ℕ) → p < 2 ^ 64 → length (refusalLine (number f) p) ≤ 126
