@@ -14,7 +14,7 @@ use Rattle.integers.specs.Ring.{poly, by-ring}
 use Rattle.ring.specs.declared.Point.{Point}
 use Rattle.ring.specs.declared.RootTwo.{RootTwo}
 use Rattle.ring.specs.RootTwo.{_⊞_, _⊟_, _⊠_, neg, num, ring√, num-+, num-*, num-neg}
-use Rattle.ring.specs.RootTwo.Order.{Nn, _⊑_, nn-by, nn-+, nn-*, nn-num, num-nn, nn-cancel}
+use Rattle.ring.specs.RootTwo.Order.{_⊑_, nn-by, nn-+, nn-*, nn-num, num-nn, nn-cancel}
 use Rattle.ring.specs.RootTwo.Power.{√2^, √2^-zero, √2^-nn, √2^-≤}
 use Rattle.region.specs.declared.Region.{Region}
 use Rattle.region.specs.declared.Job.{Job}

@@ -3,7 +3,7 @@ use mathlib.Core.Path.{_≡_, refl, subst}
 use mathlib.Core.Bool.{true}
 use mathlib.Core.List.{[], _∷_}
 use Prim.Native.Nat.{ℕ, suc, zero-le}
-use lib.IntN.{ℤ, pos}
+use lib.IntN.{ℤ}
 use Rattle.integers.specs.Difference.{_≼_, _≺_}
 use Rattle.integers.specs.Order.{≺-irrefl}
 use Rattle.integers.specs.Ring.{poly, by-ring}
