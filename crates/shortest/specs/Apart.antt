@@ -1,6 +1,6 @@
 -- Two regions have no common point where in some direction the one ends before the other begins.
 use mathlib.Core.Path.{_≡_, refl, sym, ap₂, subst, subst₂, _∙_}
-use mathlib.Core.Bool.{Bool, true, false, false≢true}
+use mathlib.Core.Bool.{Bool, true}
 use mathlib.Core.List.{[], _∷_}
 use Prim.Native.Nat.{ℕ, suc, _^_, _≤_, _<_, zero-le}
 use native.Mathlib.Omega.{arith}
@@ -14,7 +14,7 @@ use Rattle.integers.specs.Ring.{poly, by-ring}
 use Rattle.ring.specs.declared.Point.{Point}
 use Rattle.ring.specs.declared.RootTwo.{RootTwo}
 use Rattle.ring.specs.RootTwo.{_⊞_, _⊟_, _⊠_, neg, num, ring√, num-+, num-*, num-neg}
-use Rattle.ring.specs.RootTwo.Order.{Nn, _⊑_, nn-by, nn-+, nn-*, nn-num, num-nn, nn-cancel}
+use Rattle.ring.specs.RootTwo.Order.{_⊑_, nn-by, nn-+, nn-*, nn-num, num-nn, nn-cancel}
 use Rattle.ring.specs.RootTwo.Power.{√2^, √2^-zero, √2^-nn, √2^-≤}
 use Rattle.region.specs.declared.Region.{Region}
 use Rattle.region.specs.declared.Job.{Job}
@@ -24,16 +24,14 @@ use Rattle.region.specs.Reach.{reachOf}
 use Rattle.region.specs.ReachOver.{reach-over, reach-size}
 use Rattle.region.specs.Membership.{solves-true}
 use Rattle.shortest.specs.Pattern.{qualifies}
+use Rattle.shortest.specs.Void.{Void}
 use Rattle.shortest.specs.Disk.{disk, qualifies-solves, qualifies-disks}
 
 pub record Apart-if (r s : Region) (b : Bool) : Type 0 where
   pub none : b ≡ true → (k : ℕ) (X Y : RootTwo) → holds r (√2^ (suc k)) X Y ≡ true → holds s (√2^ (suc k)) X Y ≡ true → ⊥
 
-pub not-seen : (r s : Region) → Apart-if r s false
-not-seen r s = record { none = λ e. absurd (false≢true e) }
-
-pub not-here : (r s : Region) (b : Bool) → Apart-if r r b → Apart-if r s b
-not-here r s b h = record { none = λ e k X Y x y. h .none e k X Y x x }
+pub void-apart : (r s : Region) → Void r → Apart-if r s true
+void-apart r s h = record { none = λ e k X Y x y. h .none k X Y x }
 
 -- ---- 0 ≤ z w leaves no z below 0
 weight-one : (k : ℕ) → num (pos 1) ⊑ √2^ (suc k)

@@ -1,6 +1,6 @@
 -- No u and t that solve the equation, with u in A and its conjugate in B, up to the top scale, have a smaller m than the pattern's: SPEC, "Shortest pattern".
 use mathlib.Core.Path.{_≡_, refl, sym, ap, subst, _∙_}
-use mathlib.Core.Bool.{Bool, true, false, _&&_, not, false≢true}
+use mathlib.Core.Bool.{Bool, true, false, not, false≢true}
 use mathlib.Core.List.{List, [], _∷_, List·Memᴰ·not-nil, List·Memᴰ·head}
 use mathlib.Core.Logic.{_↔_}
 use Prim.Native.Nat.{ℕ, zero, suc, _+_, _≤_, _<_}
@@ -21,7 +21,7 @@ use Rattle.points.specs.Listed.{passing, all-hold}
 use Rattle.region.specs.declared.Job.{Job}
 use Rattle.region.specs.Region.{topScale, solves}
 use Rattle.region.specs.Membership.{solves-true}
-use Rattle.region.specs.Selection.{isNew, listed, is-listed, listed-selected, new-zero, new-not, exponent-most}
+use Rattle.region.specs.Selection.{isNew, is-listed, listed-selected, new-zero, new-not, exponent-most}
 use Rattle.equation.specs.Equation.{completes}
 use Rattle.entry.specs.Entry.{full}
 use Rattle.equation.specs.Size.{within-bound, given-within}

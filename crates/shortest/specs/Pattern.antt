@@ -1,5 +1,5 @@
 -- The shortest pattern: SPEC, "Shortest pattern".
-use mathlib.Core.Bool.{Bool, true, false, _&&_, not}
+use mathlib.Core.Bool.{Bool, false, _&&_, not}
 use mathlib.Core.List.{List, [], _∷_}
 use Prim.Native.Nat.{ℕ, zero, suc}
 use Rattle.ring.specs.declared.Point.{Point}
