@@ -1,4 +1,5 @@
 use mathlib.Core.Path.{_≡_, sym, _∙_, ap}
+use mathlib.Core.Bool.{true}
 use lib.IntN.{ℤ}
 use mir.Syntax.{w64}
 use mir.Facts.{toZ-ofZ}
@@ -21,7 +22,7 @@ enum-known-self-2 : tie.Need-enum-known-self-2
 enum-known-self-2 c = search needs
 
 reach-requires-2 : tie.Need-reach-requires-2
-reach-requires-2 c κs = search needs
+reach-requires-2 c κs = ap accepted (sym (c .before .self2 .given .1)) ∙ c .before .before .before .pre .0
 
 enum-known-self-3 : tie.Need-enum-known-self-3
 enum-known-self-3 c = search needs
@@ -32,20 +33,22 @@ bound-requires c κs =
     (ap accepted (sym (c .before .self3 .given .1)) ∙ s .pre .0, rw (toZ-ofZ (s .fits .u)) (s .pre .1), rw (toZ-ofZ (s .fits .v)) (s .pre .2))
 
 -- a reach is a bound
-reached : (s : tie.Start) {g : Region} {r : ℤ} → s .args .self ≡ g → r ≡ reachOf g (s .args .u) (s .args .v) → Bounds (s .args .self) (s .args .u) (s .args .v) r
-reached s d e = rw (e, ← d) (reach-bounds (s .args .self) (s .args .u) (s .args .v) (s .pre .0) (s .pre .1) (s .pre .2))
+reached : (s : tie.Start) {g : Region} {r : ℤ} → s .args .self ≡ g → (accepted g ≡ true → r ≡ reachOf g (s .args .u) (s .args .v)) → Bounds (s .args .self) (s .args .u) (s .args .v) r
+reached s d e = rw (e (ap accepted (sym d) ∙ s .pre .0), ← d) (reach-bounds (s .args .self) (s .args .u) (s .args .v) (s .pre .0) (s .pre .1) (s .pre .2))
 
 returns : tie.Need-returns
+unfolding reachOf
 returns c =
     let k = c .before .before in
     let s = k .before .before in
-    reached s (k .self .given .1) (back w64 (c .reach .ok) ∙ (simp (toZ-ofZ (s .fits .u), toZ-ofZ (s .fits .v)) at (c .reach .ensures)))
+    reached s (k .self .given .1) (λ h. rw (h, reachOf) (back w64 (c .reach .ok) ∙ (simp (toZ-ofZ (s .fits .u), toZ-ofZ (s .fits .v)) at (c .reach .ensures))))
 
 returns-2 : tie.Need-returns-2
+unfolding reachOf
 returns-2 c =
     let k = c .before .before in
     let s = k .before .before in
-    reached s (k .self2 .given .1) (back w64 (c .reach2 .ok) ∙ (simp (toZ-ofZ (s .fits .u), toZ-ofZ (s .fits .v)) at (c .reach2 .ensures)))
+    reached s (k .self2 .given .1) (λ h. rw (h, reachOf) (back w64 (c .reach2 .ok) ∙ (simp (toZ-ofZ (s .fits .u), toZ-ofZ (s .fits .v)) at (c .reach2 .ensures))))
 
 returns-3 : tie.Need-returns-3
 returns-3 c =
