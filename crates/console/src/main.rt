@@ -1,20 +1,14 @@
 // Every public entry, tried by hand or by a script: one line for each line of standard input. Empty lines and those that begin with # are skipped.
-mod apart;
-mod args;
-mod other;
-mod put;
 mod steps;
-mod word;
 
 ghost use mathlib.Core.Path.{_≡_};
 ghost use Prim.Native.Nat.{_≤_};
 ghost use lib.ListN.{length};
 use libc::STDIN_FILENO;
 use libc::STDOUT_FILENO;
-use put::Line;
+use replies::Line;
 use session::Session;
 use steps::Reply;
-use wording::Numbers;
 
 fn main() {
     let mut space = input_buffer();
@@ -83,13 +77,13 @@ fn answer_to(s: Session, c: usize, line: &[u8], end: usize) -> Session {
 
 fn print_words(line: &[u8], end: usize) {
     let mut out = io::large_buffer();
-    let n = word::put(&mut out, wording::numbers_from(line, end));
+    let n = stateless::put_words(&mut out, line, end);
     write(&out, n);
 }
 
 fn print(l: Line, numbers: &[i32]) {
     let mut out = io::large_buffer();
-    let n = put::put(&mut out, l, numbers);
+    let n = replies::put(&mut out, l, numbers);
     write(&out, n);
 }
 
@@ -101,31 +95,15 @@ fn write(out: &[u8], n: usize) {
 
 // The answer to a command; its arguments begin at `end`.
 fn reply(s: Session, c: usize, line: &[u8], end: usize, numbers: &mut [i32]) -> Reply {
-    if c == wording::READ {
-        return steps::read(s, line, end);
-    }
-    if c == wording::SIGN {
-        return steps::same(s, apart::sign(line, end));
-    }
-    let n = wording::numbers_from(line, end);
-    if !n.good {
-        return steps::same(s, Line::Bad);
-    }
-    answered(s, c, n, numbers)
-}
-
-// The commands with numbers of one word.
-fn answered(s: Session, c: usize, n: Numbers, numbers: &mut [i32]) -> Reply {
     match c {
-        wording::HAND => steps::hand(s, n, numbers),
-        wording::REWIND => steps::alone(s, c, n),
-        wording::CLEAR => steps::alone(s, c, n),
-        wording::PLAIN => steps::alone(s, c, n),
-        wording::SHORTEST => steps::alone(s, c, n),
-        wording::PROPOSE => steps::alone(s, c, n),
-        wording::IMAGE => steps::same(s, steps::image(s, n)),
-        wording::LINE => steps::same(s, apart::line(n, numbers)),
-        wording::ENTRY => steps::same(s, other::entry(n, numbers)),
-        _ => steps::same(s, apart::numbered(c, n)),
+        wording::READ => steps::read(s, line, end),
+        wording::HAND
+        | wording::IMAGE
+        | wording::REWIND
+        | wording::CLEAR
+        | wording::PLAIN
+        | wording::SHORTEST
+        | wording::PROPOSE => steps::numbered(s, c, wording::numbers_from(line, end), numbers),
+        _ => steps::same(s, stateless::answer(c, line, end, numbers)),
     }
 }

@@ -1,12 +1,10 @@
 // Calls on the session.
 ghost use mathlib.Core.Path.{_≡_};
 ghost use lib.ListN.{length};
-use crate::apart;
-use crate::args;
-use crate::args::Four;
-use crate::put::Line;
-use crate::put::Value;
+use arguments::Four;
 use record::Refusal;
+use replies::Line;
+use replies::Value;
 use session::Answer;
 use session::Outcome;
 use session::Session;
@@ -42,18 +40,10 @@ fn answered(a: Answer) -> Line {
     match a {
         Answer::Taken(n) => Line::Good(Value::Unsigned(n as u64)),
         Answer::Says(yes) => Line::Good(Value::Says(yes)),
-        Answer::Refused(f) => Line::Refused(f),
+        Answer::Refused(f) => Line::Refused(f.number()),
         Answer::Done => Line::Good(Value::Nothing),
-        Answer::Least(k, u, t) => Line::Good(Value::Pattern(
-            k as u64,
-            apart::widened(u),
-            apart::widened(t),
-        )),
-        Answer::Handed(count, ended) => Line::Good(Value::Handed(
-            count,
-            ended,
-            apart::twice(apart::twice(count)),
-        )),
+        Answer::Least(k, u, t) => Line::Good(Value::Pattern(k, u, t)),
+        Answer::Handed(count, ended) => Line::Good(Value::Points(count, ended)),
     }
 }
 
@@ -95,8 +85,20 @@ pub fn number_buffer() -> [i32; 4096]
     [0; 4096]
 }
 
+// The commands with numbers, or with none.
+pub fn numbered(s: Session, c: usize, n: Numbers, space: &mut [i32]) -> Reply {
+    if !n.good {
+        return same(s, Line::Bad);
+    }
+    match c {
+        wording::HAND => hand(s, n, space),
+        wording::IMAGE => same(s, image(s, n)),
+        _ => alone(s, c, n),
+    }
+}
+
 // `hand LENGTH`.
-pub fn hand(s: Session, n: Numbers, space: &mut [i32]) -> Reply {
+fn hand(s: Session, n: Numbers, space: &mut [i32]) -> Reply {
     if n.count != 1 {
         return same(s, Line::Bad);
     }
@@ -115,7 +117,7 @@ fn hand_out(s: Session, space: &mut [i32], k: usize) -> Reply {
 }
 
 // `rewind`, `clear`, `plain`, `shortest`, `propose`, without a number.
-pub fn alone(s: Session, c: usize, n: Numbers) -> Reply {
+fn alone(s: Session, c: usize, n: Numbers) -> Reply {
     if n.count != 0 {
         return same(s, Line::Bad);
     }
@@ -132,17 +134,17 @@ pub fn alone(s: Session, c: usize, n: Numbers) -> Reply {
 fn propose(s: Session) -> Line {
     let g = s.stage;
     match g {
-        Stage::Walking(c) => Line::Good(apart::columns(question::propose(c.job))),
-        _ => Line::Refused(Refusal::NoJob),
+        Stage::Walking(c) => Line::Good(Value::Operator(question::propose(c.job))),
+        _ => Line::Refused(Refusal::NoJob.number()),
     }
 }
 
 // `image A B C D`.
-pub fn image(s: Session, n: Numbers) -> Line {
+fn image(s: Session, n: Numbers) -> Line {
     if n.count != 4 {
         return Line::Bad;
     }
-    let v = args::point(n.values[0], n.values[1], n.values[2], n.values[3]);
+    let v = arguments::point_of(n.values[0], n.values[1], n.values[2], n.values[3]);
     match v {
         Four::Point(w) => answered(held::has_image(s, w)),
         Four::TooWide => Line::Bad,

@@ -2,8 +2,8 @@
 use mathlib.Core.Path.{sym}
 use lib.Seq.{length-take-le}
 use borrow.Author.Needs.{needs}
-use Rattle.console.proofs.apart.line_into.Statement.{statement}
-use Rattle.console.proofs.apart.line_into.Tie as tie
+use Rattle.stateless.proofs.pairs.line_into.Statement.{statement}
+use Rattle.stateless.proofs.pairs.line_into.Tie as tie
 
 returns : tie.Need-returns
 returns c = search needs
@@ -20,11 +20,11 @@ pairs-requires c κs = search needs
 enum-known-a : tie.Need-enum-known-a
 enum-known-a c = search needs
 
-twice-requires : tie.Need-twice-requires
-twice-requires c κs = search needs
-
 enum-told : tie.Need-enum-told
 enum-told c = search needs
+
+number-requires : tie.Need-number-requires
+number-requires c κs = search needs
 
 same-length : tie.Need-same-length
 same-length c = search needs
@@ -47,8 +47,8 @@ line-into-spec =
     slice-aggregate-pairs
     pairs-requires
     enum-known-a
-    twice-requires
     enum-told
+    number-requires
     same-length
     returns-2
     same-length-2

@@ -3,11 +3,11 @@ use mathlib.Core.Path.{sym}
 use native.Mathlib.Omega.{arith}
 use lib.Seq.{length-take-le}
 use borrow.Author.Needs.{needs}
-use Rattle.console.proofs.word.spelled.Statement.{statement}
-use Rattle.console.proofs.word.spelled.Tie as tie
+use Rattle.stateless.proofs.letters.spelled.Statement.{statement}
+use Rattle.stateless.proofs.letters.spelled.Tie as tie
 
-bad-requires : tie.Need-bad-requires
-bad-requires c κs = search needs
+put-bad-requires : tie.Need-put-bad-requires
+put-bad-requires c κs = search needs
 
 same-length : tie.Need-same-length
 same-length c = search needs
@@ -15,8 +15,8 @@ same-length c = search needs
 returns : tie.Need-returns
 returns c = search needs
 
-bad-requires-2 : tie.Need-bad-requires-2
-bad-requires-2 c κs = search needs
+put-bad-requires-2 : tie.Need-put-bad-requires-2
+put-bad-requires-2 c κs = search needs
 
 same-length-2 : tie.Need-same-length-2
 same-length-2 c = search needs
@@ -39,8 +39,8 @@ slice-aggregate-spell-part-2 c = sym (length-take-le _ _ (omega arith))
 spell-part-requires : tie.Need-spell-part-requires
 spell-part-requires c κs = search needs
 
-refused-requires : tie.Need-refused-requires
-refused-requires c κs = search needs
+put-refused-requires : tie.Need-put-refused-requires
+put-refused-requires c κs = search needs
 
 same-length-3 : tie.Need-same-length-3
 same-length-3 c = search needs
@@ -73,10 +73,10 @@ pub spelled-spec : {M : Type 1} → statement M
 spelled-spec =
     tie.close
     (tie.spec
-    bad-requires
+    put-bad-requires
     same-length
     returns
-    bad-requires-2
+    put-bad-requires-2
     same-length-2
     returns-2
     slice-relend-prefix-spell-part
@@ -84,7 +84,7 @@ spelled-spec =
     slice-relend-prefix-spell-part-2
     slice-aggregate-spell-part-2
     spell-part-requires
-    refused-requires
+    put-refused-requires
     same-length-3
     same-length-4
     same-length-5

@@ -1,11 +1,12 @@
-// Answers as lines of text.
+// What a line of the console is answered, and the line of text that says it (SPEC, "Console").
+use operator::Operator;
 use operator::WidePoint;
-use record::Refusal;
+use ring::Point;
 
-// What a line of input is answered.
+// A line that is not one of the commands', a refusal by its number, or what follows `ok`.
 pub enum Line {
     Bad,
-    Refused(Refusal),
+    Refused(u8),
     Good(Value),
 }
 
@@ -19,24 +20,33 @@ pub enum Value {
     Two(i64, i64),
     Four(WidePoint),
     Eight(WidePoint, WidePoint),
+    Point(Point),
+    Operator(Operator),
     // A scale and two points.
-    Pattern(u64, WidePoint, WidePoint),
-    // A hand-out: its count, its end, and how many numbers it has.
-    Handed(usize, bool, usize),
+    Pattern(u8, Point, Point),
+    // Hand-outs of pairs and of points: the count, and whether it is the end.
+    Pairs(usize, bool),
+    Points(usize, bool),
 }
 
-// The line of an answer; the numbers of a hand-out are the first ones of `numbers`.
+// The line of an answer, and its length; the numbers of a hand-out are the first ones of `numbers`.
 pub fn put(out: &mut [u8], l: Line, numbers: &[i32]) -> usize {
     match l {
-        Line::Bad => text::put_bytes(out, 0, b"bad line\n"),
-        Line::Refused(f) => refused(out, f),
+        Line::Bad => put_bad(out),
+        Line::Refused(number) => put_refused(out, number),
         Line::Good(v) => good(out, v, numbers),
     }
 }
 
-fn refused(out: &mut [u8], f: Refusal) -> usize {
+// The line of `Line::Bad`.
+pub fn put_bad(out: &mut [u8]) -> usize {
+    text::put_bytes(out, 0, b"bad line\n")
+}
+
+// The line of `Line::Refused`.
+pub fn put_refused(out: &mut [u8], number: u8) -> usize {
     let at = text::put_bytes(out, 0, b"refused");
-    let at = unsigned(out, at, f.number() as u64);
+    let at = unsigned(out, at, number as u64);
     end(out, at)
 }
 
@@ -56,8 +66,11 @@ fn put_value(out: &mut [u8], at: usize, v: Value, numbers: &[i32]) -> usize {
         Value::Two(p, q) => two(out, at, p, q),
         Value::Four(w) => four(out, at, w),
         Value::Eight(v, w) => eight(out, at, v, w),
+        Value::Point(u) => four(out, at, widened(u)),
+        Value::Operator(g) => columns(out, at, g),
         Value::Pattern(k, u, t) => pattern(out, at, k, u, t),
-        Value::Handed(count, ended, n) => handed(out, at, count, ended, numbers, n),
+        Value::Pairs(count, ended) => handed(out, at, count, ended, numbers, twice(count)),
+        Value::Points(count, ended) => handed(out, at, count, ended, numbers, twice(twice(count))),
     }
 }
 
@@ -99,11 +112,48 @@ fn eight(out: &mut [u8], at: usize, v: WidePoint, w: WidePoint) -> usize {
     four(out, at, w)
 }
 
-fn pattern(out: &mut [u8], at: usize, k: u64, u: WidePoint, t: WidePoint) -> usize {
-    let at = unsigned(out, at, k);
-    eight(out, at, u, t)
+// G(1), then G(i).
+fn columns(out: &mut [u8], at: usize, g: Operator) -> usize {
+    let first = column(g.a, g.b, g.c, g.d);
+    eight(out, at, first, column(g.ai, g.bi, g.ci, g.di))
 }
 
+fn column(a: i16, b: i16, c: i16, d: i16) -> WidePoint {
+    WidePoint {
+        a: short(a),
+        b: short(b),
+        c: short(c),
+        d: short(d),
+    }
+}
+
+fn short(z: i16) -> i64 {
+    z as i64
+}
+
+fn pattern(out: &mut [u8], at: usize, k: u8, u: Point, t: Point) -> usize {
+    let at = unsigned(out, at, k as u64);
+    eight(out, at, widened(u), widened(t))
+}
+
+fn widened(v: Point) -> WidePoint {
+    WidePoint {
+        a: wide(v.a),
+        b: wide(v.b),
+        c: wide(v.c),
+        d: wide(v.d),
+    }
+}
+
+fn wide(z: i32) -> i64 {
+    z as i64
+}
+
+fn twice(n: usize) -> usize {
+    std::num::wrapping_add_usize(n, n)
+}
+
+// A count, the end, and the first n numbers.
 fn handed(
     out: &mut [u8],
     at: usize,
@@ -132,8 +182,4 @@ fn all(out: &mut [u8], from: usize, numbers: &[i32], n: usize) -> usize {
 
 fn end(out: &mut [u8], at: usize) -> usize {
     text::put_byte(out, at, b'\n')
-}
-
-pub fn wide(z: i32) -> i64 {
-    z as i64
 }

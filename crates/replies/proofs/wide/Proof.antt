@@ -5,8 +5,8 @@ use mir.Val.{SFits}
 use mir.Facts.{toZ-ofZ}
 use lib.Dec.{lit≤}
 use borrow.Author.Needs.{needs}
-use Rattle.console.proofs.put.wide.Statement.{statement}
-use Rattle.console.proofs.put.wide.Tie as tie
+use Rattle.replies.proofs.wide.Statement.{statement}
+use Rattle.replies.proofs.wide.Tie as tie
 
 cast-result : tie.Need-cast-result
 cast-result c =

@@ -3,8 +3,8 @@ use mathlib.Core.Path.{sym}
 use native.Mathlib.Omega.{arith}
 use lib.Seq.{length-take-le}
 use borrow.Author.Needs.{needs}
-use Rattle.console.proofs.other.entry_into.Statement.{statement}
-use Rattle.console.proofs.other.entry_into.Tie as tie
+use Rattle.stateless.proofs.entries.entry_into.Statement.{statement}
+use Rattle.stateless.proofs.entries.entry_into.Tie as tie
 
 returns : tie.Need-returns
 returns c = search needs
@@ -21,14 +21,11 @@ hand-out-requires c κs = search needs
 enum-known-a : tie.Need-enum-known-a
 enum-known-a c = search needs
 
-twice-requires : tie.Need-twice-requires
-twice-requires c κs = search needs
-
-twice-requires-2 : tie.Need-twice-requires-2
-twice-requires-2 c κs = search needs
-
 enum-told : tie.Need-enum-told
 enum-told c = search needs
+
+number-requires : tie.Need-number-requires
+number-requires c κs = search needs
 
 same-length : tie.Need-same-length
 same-length c = search needs
@@ -51,9 +48,8 @@ entry-into-spec =
     slice-aggregate-hand-out
     hand-out-requires
     enum-known-a
-    twice-requires
-    twice-requires-2
     enum-told
+    number-requires
     same-length
     returns-2
     same-length-2

@@ -1,16 +1,17 @@
-// What the numbers of a line are to an entry.
+// Whole numbers of 64 bits as what a call takes, where they fit: a point, a scale, an interval, an operator.
 use integers::Narrow;
 use integers::Short;
 use line::Interval;
 use operator::Operator;
 use ring::Point;
 
+// Four numbers of 32 bits.
 pub enum Four {
     Point(Point),
     TooWide,
 }
 
-pub fn point(a: i64, b: i64, c: i64, d: i64) -> Four {
+pub fn point_of(a: i64, b: i64, c: i64, d: i64) -> Four {
     let Narrow::Fits(a) = integers::to_i32(a) else {
         return Four::TooWide;
     };
@@ -49,7 +50,7 @@ pub enum Ends {
     TooWide,
 }
 
-pub fn interval(n: i64, lo: i64, hi: i64) -> Ends {
+pub fn interval_of(n: i64, lo: i64, hi: i64) -> Ends {
     let Narrow::Fits(n) = integers::to_i32(n) else {
         return Ends::TooWide;
     };
@@ -84,32 +85,18 @@ fn shorts_of(a: i64, b: i64, c: i64, d: i64) -> Shorts {
     Shorts::Fit(a, b, c, d)
 }
 
+// Eight numbers of 16 bits.
 pub enum Eight {
     Operator(Operator),
     TooWide,
 }
 
-// The operator of the first eight numbers.
-pub fn operator_of(n: [i64; 16]) -> Eight {
-    operator_from(
-        shorts_of(n[0], n[1], n[2], n[3]),
-        shorts_of(n[4], n[5], n[6], n[7]),
-    )
-}
-
-// The operator of the last eight numbers.
-pub fn second_of(n: [i64; 16]) -> Eight {
-    operator_from(
-        shorts_of(n[8], n[9], n[10], n[11]),
-        shorts_of(n[12], n[13], n[14], n[15]),
-    )
-}
-
-fn operator_from(one: Shorts, i: Shorts) -> Eight {
-    let Shorts::Fit(a, b, c, d) = one else {
+// The numbers of G(1), then those of G(i).
+pub fn operator_of(a: i64, b: i64, c: i64, d: i64, ai: i64, bi: i64, ci: i64, di: i64) -> Eight {
+    let Shorts::Fit(a, b, c, d) = shorts_of(a, b, c, d) else {
         return Eight::TooWide;
     };
-    let Shorts::Fit(ai, bi, ci, di) = i else {
+    let Shorts::Fit(ai, bi, ci, di) = shorts_of(ai, bi, ci, di) else {
         return Eight::TooWide;
     };
     Eight::Operator(Operator {

@@ -1,13 +1,11 @@
 // The other entry of a matrix.
-use crate::apart;
-use crate::args;
-use crate::args::Byte;
-use crate::args::Four;
-use crate::put::Line;
-use crate::put::Value;
+use arguments::Byte;
+use arguments::Four;
 use entry::Answer;
 use entry::Place;
 use record::Refusal;
+use replies::Line;
+use replies::Value;
 use ring::Point;
 use wording::Numbers;
 use wording::Slice;
@@ -20,17 +18,19 @@ pub fn entry(n: Numbers, space: &mut [i32]) -> Line {
     if n.count != 10 {
         return Line::Bad;
     }
-    let Four::Point(p) = args::point(n.values[6], n.values[7], n.values[8], n.values[9]) else {
+    let Four::Point(p) = arguments::point_of(n.values[6], n.values[7], n.values[8], n.values[9])
+    else {
         return Line::Bad;
     };
     entry_from(n, Place::After(p), space)
 }
 
 fn entry_from(n: Numbers, place: Place, space: &mut [i32]) -> Line {
-    let Byte::Fits(k) = args::byte_of(n.values[0]) else {
+    let Byte::Fits(k) = arguments::byte_of(n.values[0]) else {
         return Line::Bad;
     };
-    let Four::Point(v) = args::point(n.values[1], n.values[2], n.values[3], n.values[4]) else {
+    let Four::Point(v) = arguments::point_of(n.values[1], n.values[2], n.values[3], n.values[4])
+    else {
         return Line::Bad;
     };
     let Slice::Length(l) = wording::lent(n.values[5]) else {
@@ -45,11 +45,7 @@ fn entry_into(k: u8, v: Point, place: Place, space: &mut [i32], l: usize) -> Lin
     }
     let a = entry::hand_out(k, v, place, &mut space[..l]);
     match a {
-        Answer::Handed(count, ended) => Line::Good(Value::Handed(
-            count,
-            ended,
-            apart::twice(apart::twice(count)),
-        )),
-        Answer::Refused => Line::Refused(Refusal::OutOfRange),
+        Answer::Handed(count, ended) => Line::Good(Value::Points(count, ended)),
+        Answer::Refused => Line::Refused(Refusal::OutOfRange.number()),
     }
 }

@@ -5,8 +5,8 @@ use mir.Val.{SFits}
 use mir.Facts.{toZ-ofZ}
 use lib.Dec.{lit≤}
 use borrow.Author.Needs.{needs}
-use Rattle.console.proofs.apart.short.Statement.{statement}
-use Rattle.console.proofs.apart.short.Tie as tie
+use Rattle.replies.proofs.short.Statement.{statement}
+use Rattle.replies.proofs.short.Tie as tie
 
 cast-result : tie.Need-cast-result
 cast-result c =

@@ -1,43 +1,42 @@
 // `word K`, the four numbers of u, those of t, `LENGTH LENGTH`: gate words.
 ghost use mathlib.Core.Path.{_≡_};
 ghost use lib.ListN.{length};
-use crate::args;
-use crate::args::Byte;
-use crate::args::Four;
+use arguments::Byte;
+use arguments::Four;
 use gate_words::Part;
+use replies::put_bad;
 use ring::Point;
 use wording::Numbers;
 use wording::Slice;
 
-// The answer's line, and its length.
-pub fn put(out: &mut [u8], n: Numbers) -> usize {
+// The line that answers `word`, and its length; the arguments begin at `from`.
+pub fn put_words(out: &mut [u8], line: &[u8], from: usize) -> usize {
+    let n = wording::numbers_from(line, from);
     if n.good {
         if n.count == 11 {
-            return put_words(out, n);
+            return put_spelled(out, n);
         }
     }
-    bad(out)
+    put_bad(out)
 }
 
-fn bad(out: &mut [u8]) -> usize {
-    text::put_bytes(out, 0, b"bad line\n")
-}
-
-fn put_words(out: &mut [u8], n: Numbers) -> usize {
-    let Byte::Fits(k) = args::byte_of(n.values[0]) else {
-        return bad(out);
+fn put_spelled(out: &mut [u8], n: Numbers) -> usize {
+    let Byte::Fits(k) = arguments::byte_of(n.values[0]) else {
+        return put_bad(out);
     };
-    let Four::Point(u) = args::point(n.values[1], n.values[2], n.values[3], n.values[4]) else {
-        return bad(out);
+    let Four::Point(u) = arguments::point_of(n.values[1], n.values[2], n.values[3], n.values[4])
+    else {
+        return put_bad(out);
     };
-    let Four::Point(t) = args::point(n.values[5], n.values[6], n.values[7], n.values[8]) else {
-        return bad(out);
+    let Four::Point(t) = arguments::point_of(n.values[5], n.values[6], n.values[7], n.values[8])
+    else {
+        return put_bad(out);
     };
     let Slice::Length(l) = wording::lent(n.values[9]) else {
-        return bad(out);
+        return put_bad(out);
     };
     let Slice::Length(m) = wording::lent(n.values[10]) else {
-        return bad(out);
+        return put_bad(out);
     };
     let mut first = letter_buffer();
     let mut second = letter_buffer();
@@ -62,22 +61,16 @@ fn spelled<'a>(
     m: usize,
 ) -> usize {
     if first.len() < l {
-        return bad(out);
+        return put_bad(out);
     }
     if second.len() < m {
-        return bad(out);
+        return put_bad(out);
     }
     let p = gate_words::spell_part(k, u, t, &mut first[..l], &mut second[..m]);
     if p.number != 0 {
-        return refused(out, p.number);
+        return replies::put_refused(out, p.number);
     }
     answered(out, p, first, second, l, m)
-}
-
-fn refused(out: &mut [u8], number: u8) -> usize {
-    let at = text::put_bytes(out, 0, b"refused ");
-    let at = text::put_unsigned(out, at, number as u64);
-    text::put_byte(out, at, b'\n')
 }
 
 // The part handed back, then both slices.

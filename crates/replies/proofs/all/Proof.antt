@@ -3,8 +3,8 @@ use Prim.Native.Nat.{_-_, _≤_}
 use mathlib.Core.Path.{_≡_}
 use lib.ListN.{length}
 use borrow.Author.Needs.{needs}
-use Rattle.console.proofs.put.all.Statement.{statement}
-use Rattle.console.proofs.put.all.Tie as tie
+use Rattle.replies.proofs.all.Statement.{statement}
+use Rattle.replies.proofs.all.Tie as tie
 
 abbrev Inv-loop : tie.InvT-loop
 Inv-loop out₀ from numbers n at₀ i₀ out at i = (i ≤ length numbers) × (length out ≡ length out₀)

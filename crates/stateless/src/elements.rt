@@ -1,0 +1,94 @@
+// Numbers p + q√2 and points.
+use arguments::Byte;
+use arguments::Four;
+use operator::Operator;
+use record::Refusal;
+use replies::Line;
+use replies::Value;
+use ring::Point;
+use ring::Quotient;
+use ring::RootTwo;
+use ring::Sign;
+use wording::Numbers;
+use wording::Pair;
+
+// `sign P Q`, with numbers of two words.
+pub fn sign(line: &[u8], from: usize) -> Line {
+    let n = wording::pair_from(line, from);
+    match n {
+        Pair::Both(p, q) => Line::Good(Value::One(number(ring::wide_sign_of(p, q)))),
+        Pair::Bad => Line::Bad,
+    }
+}
+
+fn number(s: Sign) -> i64 {
+    match s {
+        Sign::Minus => -1,
+        Sign::Zero => 0,
+        Sign::Plus => 1,
+    }
+}
+
+// `exponent K A B C D`.
+pub fn exponent(n: Numbers) -> Line {
+    if n.count != 5 {
+        return Line::Bad;
+    }
+    let Four::Point(v) = arguments::point_of(n.values[1], n.values[2], n.values[3], n.values[4])
+    else {
+        return Line::Bad;
+    };
+    let Byte::Fits(k) = arguments::byte_of(n.values[0]) else {
+        return Line::Bad;
+    };
+    exponent_at(k, v)
+}
+
+fn exponent_at(k: u8, v: Point) -> Line {
+    if !ranges::scale(k) {
+        return Line::Refused(Refusal::OutOfRange.number());
+    }
+    let e = v.exponent(k);
+    Line::Good(Value::Pair(e as u64, ring::pulse_count(e)))
+}
+
+// `real`, `imaginary`, `divide`, each with A B C D.
+pub fn point(c: usize, n: Numbers) -> Line {
+    if n.count != 4 {
+        return Line::Bad;
+    }
+    let Four::Point(v) = arguments::point_of(n.values[0], n.values[1], n.values[2], n.values[3])
+    else {
+        return Line::Bad;
+    };
+    match c {
+        wording::REAL => Line::Good(root(v.real())),
+        wording::IMAGINARY => Line::Good(root(v.imaginary())),
+        _ => Line::Good(quotient(v.divide_root2())),
+    }
+}
+
+fn root(x: RootTwo) -> Value {
+    Value::Two(x.p, x.q)
+}
+
+fn quotient(q: Quotient) -> Value {
+    match q {
+        Quotient::Whole(v) => Value::Point(v),
+        Quotient::NotInRing => Value::Says(false),
+    }
+}
+
+// The elements and the operator that have names.
+pub fn named(c: usize, n: Numbers) -> Line {
+    if n.count != 0 {
+        return Line::Bad;
+    }
+    match c {
+        wording::LAMBDA => Line::Good(root(RootTwo::lambda())),
+        wording::OMEGA => Line::Good(Value::Point(Point::omega())),
+        wording::DELTA => Line::Good(Value::Point(Point::delta())),
+        wording::IDENTITY => Line::Good(Value::Operator(Operator::identity())),
+        _ => Line::Bad,
+    }
+}

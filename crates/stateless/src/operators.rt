@@ -1,0 +1,106 @@
+// Grid operators.
+use arguments::Eight;
+use arguments::Four;
+use operator::Check;
+use operator::Entry;
+use operator::Inverse;
+use operator::Operator;
+use operator::WidePoint;
+use record::Refusal;
+use replies::Line;
+use replies::Value;
+use wording::Numbers;
+
+// `operator`, `inverse`, `matrix`, `determinant`, each with E1 .. E8.
+pub fn operator(c: usize, n: Numbers) -> Line {
+    if n.count != 8 {
+        return Line::Bad;
+    }
+    let Eight::Operator(g) = first_of(n) else {
+        return Line::Bad;
+    };
+    match c {
+        wording::OPERATOR => test(g, Value::Nothing),
+        wording::INVERSE => inverse_of(g),
+        wording::MATRIX => Line::Good(matrix(g.matrix())),
+        _ => Line::Good(entry(g.determinant())),
+    }
+}
+
+// The operator of the first eight numbers.
+fn first_of(n: Numbers) -> Eight {
+    let v = n.values;
+    arguments::operator_of(v[0], v[1], v[2], v[3], v[4], v[5], v[6], v[7])
+}
+
+// The operator of the last eight numbers.
+fn last_of(n: Numbers) -> Eight {
+    let v = n.values;
+    arguments::operator_of(v[8], v[9], v[10], v[11], v[12], v[13], v[14], v[15])
+}
+
+// A value, for an operator that passes its test.
+fn test(g: Operator, v: Value) -> Line {
+    let c = g.check();
+    match c {
+        Check::Special => Line::Good(v),
+        Check::OutOfRange => Line::Refused(Refusal::OutOfRange.number()),
+        Check::OddParity => Line::Refused(Refusal::OddParity.number()),
+        Check::NotSpecial => Line::Refused(Refusal::NotSpecial.number()),
+    }
+}
+
+fn inverse_of(g: Operator) -> Line {
+    let i = g.inverse();
+    match i {
+        Inverse::Operator(h) => Line::Good(Value::Operator(h)),
+        Inverse::Refused(_) => test(g, Value::Nothing),
+    }
+}
+
+// Row by row, each entry p + q/√2 as p and q.
+fn matrix(m: [[Entry; 2]; 2]) -> Value {
+    Value::Eight(row(m[0][0], m[0][1]), row(m[1][0], m[1][1]))
+}
+
+fn row(x: Entry, y: Entry) -> WidePoint {
+    WidePoint {
+        a: x.p,
+        b: x.q,
+        c: y.p,
+        d: y.q,
+    }
+}
+
+fn entry(x: Entry) -> Value {
+    Value::Two(x.p, x.q)
+}
+
+// `apply E1 .. E8 A B C D`.
+pub fn apply(n: Numbers) -> Line {
+    if n.count != 12 {
+        return Line::Bad;
+    }
+    let Eight::Operator(g) = first_of(n) else {
+        return Line::Bad;
+    };
+    let Four::Point(v) = arguments::point_of(n.values[8], n.values[9], n.values[10], n.values[11])
+    else {
+        return Line::Bad;
+    };
+    test(g, Value::Four(g.image(v)))
+}
+
+// `product E1 .. E8 F1 .. F8`.
+pub fn product(n: Numbers) -> Line {
+    if n.count != 16 {
+        return Line::Bad;
+    }
+    let Eight::Operator(g) = first_of(n) else {
+        return Line::Bad;
+    };
+    let Eight::Operator(h) = last_of(n) else {
+        return Line::Bad;
+    };
+    Line::Good(matrix(g.product(h)))
+}
