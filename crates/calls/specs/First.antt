@@ -20,7 +20,7 @@ use Rattle.calls.specs.Session.{full, space, Session, early, walking, fr
 use Rattle.calls.specs.Since.{Exchange, exchanges, restarts, sinceAfter, since, written, points, lentSpace, spaces, fullOf, leftAfter}
 
 module _ (W : World) where
-  open World W using (Parts, Job, Operator, Best, none, identity, readPart, readOperator, test, top, coords, four, least)
+  open World W using (Parts, Job, Operator, Best, none, identity, readPart, readOperator, test, top, width, coords, wide, least)
 
   points-more : (xs : List (Exchange W)) (x : Exchange W) → points W (xs ++ (x ∷ [])) ≡ points W xs ++ written W (x .1)
   points-more [] x = append-nil (written W (x .1))
@@ -58,7 +58,7 @@ module _ (W : World) where
       let F = full W j in
       let n = space W l in
       let left = rest (test j) top p in
-      let back : take (4 * length (take n left)) (put coords 4 (take n left) l) ≡ flat coords (take n left) = take-put coords 4 four (take n left) l in
+      let back : take (width * length (take n left)) (put coords width (take n left) l) ≡ flat coords (take n left) = take-put coords width wide (take n left) l in
       let more : take k F ++ take n left ≡ take (k + n) F = rw e (sym (take-add k n F)) in
       let all : flat coords (take k F) ++ flat coords (take n left) ≡ flat coords (take (k + n) F) =
       sym (flat-append coords (take k F) (take n left)) ∙ ap (flat coords) more in
@@ -110,11 +110,11 @@ module _ (W : World) where
   handed-first cs = first-ones (holds-since cs)
 
   -- as many as there was space for, or all if they are fewer
-  pub handed-count : (cs : List (Call W)) → length (points W (since W cs)) ≡ 4 * min (spaces W (since W cs)) (length (fullOf W (after W (fresh W) cs)))
+  pub handed-count : (cs : List (Call W)) → length (points W (since W cs)) ≡ width * min (spaces W (since W cs)) (length (fullOf W (after W (fresh W) cs)))
   handed-count cs =
       let k = spaces W (since W cs) in
       let F = fullOf W (after W (fresh W) cs) in
-      ap length (handed-first cs) ∙ length-flat coords 4 four (take k F) ∙ ap (_*_ 4) (length-take k F)
+      ap length (handed-first cs) ∙ length-flat coords width wide (take k F) ∙ ap (_*_ width) (length-take k F)
 
   full-rising : (s : Session W) → Rising 0 (fullOf W s)
   full-rising (early p) = tt

@@ -22,7 +22,7 @@ isZero zero = true
 isZero (suc n) = false
 
 module _ (W : World) where
-  open World W using (Parts, Job, Operator, Best, none, readPart, readOperator, coords, least)
+  open World W using (Parts, Job, Operator, Best, none, readPart, readOperator, width, coords, least)
 
   -- what an answer shows of it
   abbrev pub verdict : Answer W → Verdict
@@ -63,7 +63,7 @@ module _ (W : World) where
   -- none is left then, and is answered so
   abbrev pub deal : Job → ℕ → List ℤ → ℕ → Ruling
   deal j total l count = (
-    handing count (isZero (left j (total + count))) (put coords 4 (take count (drop total (full W j))) l),
+    handing count (isZero (left j (total + count))) (put coords width (take count (drop total (full W j))) l),
     record { job = whole j; total = total + count; end = isZero (left j (total + count)) },
   )
 

@@ -39,20 +39,21 @@ pub record World : Type 1 where
   -- a reading before scale, A and B are there, and one after
   pub readPart : List ℕ → Parts → Reading (Stage Parts Job)
   pub readOperator : List ℕ → Reading Operator
-  -- the ranks of the points that a job lists are those below top that pass; the four numbers of a rank's point
+  -- the ranks of the points that a job lists are those below top that pass; the numbers of a rank's point, width of them
   pub test : Job → ℕ → Bool
   pub top : ℕ
+  pub width : ℕ
   pub coords : ℕ → List ℤ
   pub image : Job → Operator → Point → Bool
   -- the shortest pattern of a job, if there is one: SPEC, "Shortest pattern"
   pub least : Job → Option Best
-  pub four : (r : ℕ) → length (coords r) ≡ 4
+  pub wide : (r : ℕ) → length (coords r) ≡ width
   -- the turn: operators come after scale, A and B, and nothing else does
   pub turn-part : (b : List ℕ) (p : Parts) → isOperator b ≡ true → (r : ℕ) × (readPart b p ≡ refuse r)
   pub turn-operator : (b : List ℕ) → isOperator b ≡ false → (r : ℕ) × (readOperator b ≡ refuse r)
 
 module _ (W : World) where
-  open World W using (Parts, Job, Operator, Point, Best, none, identity, readPart, readOperator, test, top, coords, image, least)
+  open World W using (Parts, Job, Operator, Point, Best, none, identity, readPart, readOperator, test, top, width, coords, image, least)
 
   pub data Call : Type 0 where
     reading : List ℕ → Call
@@ -84,9 +85,9 @@ module _ (W : World) where
   abbrev pub full : Job → List ℕ
   full j = rest (test j) top 0
 
-  -- the space: a quarter of the length, rounded down
+  -- the space: the length over the width, rounded down
   abbrev pub space : List ℤ → ℕ
-  space l = length l / 4
+  space l = length l / width
 
   abbrev pub fresh : Session
   fresh = early none
@@ -105,7 +106,7 @@ module _ (W : World) where
 
   abbrev pub given : Job → Operator → List ℤ → List ℕ → Outcome
   given j o l left = (
-    handed (length (take (space l) left)) (isNil (drop (space l) left)) (put coords 4 (take (space l) left) l),
+    handed (length (take (space l) left)) (isNil (drop (space l) left)) (put coords width (take (space l) left) l),
     walking j (placeOf (drop (space l) left)) o,
   )
 

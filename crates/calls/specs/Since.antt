@@ -8,6 +8,8 @@ use Rattle.calls.specs.Session.{World, Call, reading, handOut, rewind, c
 use Rattle.calls.specs.Session.{full, space, Session, early, walking, fresh, step, after, isRefused}
 
 module _ (W : World) where
+  open World W using (width)
+
   -- a call and its answer
   abbrev pub Exchange : Type 0
   Exchange = Call W × Answer W
@@ -33,11 +35,11 @@ module _ (W : World) where
   abbrev pub since : List (Call W) → List Exchange
   since cs = sinceAfter [] (exchanges (fresh W) cs)
 
-  -- points handed out: the first 4 × count numbers of each slice as its hand-out returns, in the order of the hand-outs; none of a refused one
+  -- points handed out: the first width × count numbers of each slice as its hand-out returns, in the order of the hand-outs; none of a refused one
   abbrev pub written : Answer W → List ℤ
   written (refused r) = []
   written (taken n) = []
-  written (handed n e l) = take (4 * n) l
+  written (handed n e l) = take (width * n) l
   written done = []
   written (says b) = []
   written (best b) = []

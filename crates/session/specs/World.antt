@@ -140,10 +140,11 @@ world = record {
   readOperator = λ b. operatorReading (readingOf b T.Operators);
   test = listedAt;
   top = top span;
+  width = 4;
   coords = numbersOf;
   image = isImage;
   least = λ j. bestOf (patternOf j);
-  four = λ r. refl;
+  wide = λ r. refl;
   turn-part = λ b p h. (8, part-refuses b p h);
   turn-operator = operator-refuses;
 }
