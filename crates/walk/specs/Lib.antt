@@ -1,4 +1,4 @@
--- `Walk` has the definitions; `Points` the ranks of points; `Full` the theorem about the full list; `Search` what each level of the search promises; `Row` solutions in a
+-- `Walk` has the definitions; `Points` the ranks of points; `Full` the theorem about the full list; `Search` what each level of the search promises; `Row` listed points of a
 -- row; `Hand` where a hand-out stands; `Brief` what a brief look tells.
 pub mod Walk
 pub mod Points
