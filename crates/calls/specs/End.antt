@@ -5,17 +5,17 @@ use mathlib.Core.Bool.{Bool, true, false, cond, false≢true}
 use mathlib.Core.List.{List, [], _∷_, _++_}
 use mathlib.Core.Option.{Option}
 use mathlib.Core.Option as O
-use Prim.Native.Nat.{ℕ, _≤_}
+use Prim.Native.Nat.{ℕ}
 use native.Mathlib.Omega.{arith}
 use lib.IntN.{ℤ}
 use lib.ListN.{length, take, drop, length-drop}
 use lib.Seq.{take-all}
-use Rattle.ranks.specs.Rest.{Place, at, ended, isEnded, isNil, placeOf, ended-nil, rest, leftAt}
+use Rattle.ranks.specs.Rest.{Place, at, ended, isEnded, ended-nil, rest}
 use Rattle.ranks.specs.Handed.{flat}
 use Rattle.calls.specs.Session.{World, Reading, refuse, accept, Stage, part, whole}
 use Rattle.calls.specs.Session.{Call, reading, handOut, rewind, clear, plain, imageOf, shortest, Answer, refused, taken, handed, done, says, best}
 use Rattle.calls.specs.Session.{full, space, Session, early, walking, fresh, joined, remembered, found, step, after}
-use Rattle.calls.specs.Since.{Exchange, exchanges, restarts, sinceAfter, since, points, spaces, fullOf}
+use Rattle.calls.specs.Since.{Exchange, exchanges, restarts, sinceAfter, since, points}
 use Rattle.calls.specs.First.{Holds, soon, along, holds-since}
 
 module _ (W : World) where

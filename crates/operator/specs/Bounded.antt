@@ -3,12 +3,11 @@ use mathlib.Core.Path.{_≡_}
 use Prim.Native.Nat.{ℕ, zero, suc, _+_, _^_, _≤_, _<_}
 use native.Mathlib.Omega.{arith}
 use lib.IntN.{ℤ, negℤ, natAbs, _+ℤ_, _-ℤ_, _*ℤ_}
-use mir.Syntax.{w16, w32, w64}
+use mir.Syntax.{w16, w64}
 use mir.Val.{SFits, toZ, ofZ}
 use mir.Facts.{toZ-ofZ}
 use Rattle.integers.specs.Parity.{half}
 use Rattle.integers.specs.Size.{size-neg, size-+, size--, fits→size, size-*≤, size→fits}
-use Rattle.ring.specs.declared.Point.{Point}
 use Rattle.operator.specs.declared.Operator.{Operator}
 use Rattle.operator.specs.declared.WidePoint.{WidePoint}
 use Rattle.operator.specs.declared.Entry.{Entry}

@@ -13,3 +13,4 @@ pub mod Even
 pub mod Halves
 pub mod Bounded
 pub mod Within
+pub mod Narrow

@@ -7,6 +7,8 @@ ghost use Rattle.operator.specs.Matrix.{matrixOf, productOf, determinant
 ghost use Rattle.operator.specs.Inverse.{adjugate, times, Inverts};
 ghost use Rattle.operator.specs.Accepted.{Small};
 ghost use Rattle.operator.specs.Bounded.{Near};
+ghost use Rattle.operator.specs.Narrow.{narrowed};
+use integers::Narrow;
 use ring::Point;
 
 mod bounded;
@@ -46,6 +48,12 @@ pub struct WidePoint {
     pub d: i64,
 }
 
+// The same point of 32-bit numbers, where all four fit.
+pub enum Narrowed {
+    Fits(Point),
+    TooWide,
+}
+
 // p + q/√2.
 pub struct Entry {
     pub p: i64,
@@ -56,6 +64,27 @@ pub struct Entry {
 pub enum Inverse {
     Operator(Operator),
     Refused(Check),
+}
+
+impl WidePoint {
+    // The point with 32-bit numbers, where all four fit.
+    pub fn narrow(self) -> Narrowed
+        ensures { λ r. ⌜ r ≡ narrowed self ⌝ }
+    {
+        let Narrow::Fits(a) = integers::to_i32(self.a) else {
+            return Narrowed::TooWide;
+        };
+        let Narrow::Fits(b) = integers::to_i32(self.b) else {
+            return Narrowed::TooWide;
+        };
+        let Narrow::Fits(c) = integers::to_i32(self.c) else {
+            return Narrowed::TooWide;
+        };
+        let Narrow::Fits(d) = integers::to_i32(self.d) else {
+            return Narrowed::TooWide;
+        };
+        Narrowed::Fits(Point { a, b, c, d })
+    }
 }
 
 impl Operator {

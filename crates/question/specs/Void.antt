@@ -1,51 +1,21 @@
--- A rectangle with its lower end above its upper one holds nothing: SPEC, "Membership".
-use mathlib.Core.Path.{_≡_, refl, sym, ap, subst, _∙_}
+-- A job with a region that is seen to hold nothing has no solution: SPEC, "Questions".
+use mathlib.Core.Path.{_≡_, sym, ap}
 use mathlib.Core.Bool.{true, false, not}
-use mathlib.Core.List.{[], _∷_}
-use Prim.Native.Nat.{ℕ, suc, zero-le}
-use lib.IntN.{ℤ, pos}
-use Rattle.integers.specs.Difference.{_≼_, _≺_}
-use Rattle.integers.specs.Order.{≺-irrefl}
-use Rattle.integers.specs.Ring.{poly, by-ring}
 use Rattle.ring.specs.declared.Point.{Point}
-use Rattle.ring.specs.declared.RootTwo.{RootTwo}
-use Rattle.ring.specs.RootTwo.{_⊞_, _⊟_, _⊠_, num, ring√}
-use Rattle.ring.specs.RootTwo.Order.{_⊑_, nn-by, nn-+, nn-cancel, ⊑-num}
-use Rattle.ring.specs.RootTwo.Power.{√2^, √2^-zero, √2^-≤}
-use Rattle.region.specs.declared.Rectangle.{Rectangle}
-use Rattle.region.specs.declared.Region.{Region}
-use Rattle.region.specs.declared.Region.the-variants as R
 use Rattle.region.specs.declared.Job.{Job}
-use Rattle.region.specs.Region.{holds, solves}
-use Rattle.region.specs.Membership.{holds-in, solves-true}
+use Rattle.region.specs.Region.{solves}
+use Rattle.region.specs.Membership.{solves-true}
+use Rattle.region.specs.Void.{isVoid, void-none}
 use Rattle.ranks.specs.Rest.{isNil}
 use Rattle.walk.specs.Walk.{full}
 use Rattle.walk.specs.Full.{full-empty}
 use Rattle.walk.specs.Search.{no-solution}
 
--- it holds nothing at any scale
-pub record Void (r : Region) : Type 0 where
-  pub none : (k : ℕ) (X Y : RootTwo) → holds r (√2^ (suc k)) X Y ≡ true → ⊥
-
--- l w ≤ x ≤ h w with w ≥ 1
-between : (l h : ℤ) (k : ℕ) (x : RootTwo) → num l ⊠ √2^ (suc k) ⊑ x → x ⊑ num h ⊠ √2^ (suc k) → l ≼ h
-between l h k x a b = ⊑-num l h (nn-cancel (√2^ (suc k)) (num h ⊟ num l) (subst (λ t. t ⊑ √2^ (suc k)) √2^-zero (√2^-≤ 0 (suc k) zero-le)) (nn-by (sum (num l) (num h) (√2^ (suc k)) x) (nn-+ a b)))
-  where
-    sum : (l h w x : RootTwo) → (x ⊟ l ⊠ w) ⊞ (h ⊠ w ⊟ x) ≡ w ⊠ (h ⊟ l)
-    sum l h w x = by-ring ring√ (l ∷ h ∷ w ∷ x ∷ []) (search poly depth 30) refl
-
-pub reversed-x : (r : Rectangle) → r .xh ≺ r .xl → Void (R.Rectangle r)
-reversed-x r h = record { none = λ k X Y e. let m = holds-in (R.Rectangle r) _ X Y e in ≺-irrefl _ _ h (between (r .xl) (r .xh) k _ (m .left) (m .right)) }
-
-pub reversed-y : (r : Rectangle) → r .yh ≺ r .yl → Void (R.Rectangle r)
-reversed-y r h = record { none = λ k X Y e. let m = holds-in (R.Rectangle r) _ X Y e in ≺-irrefl _ _ h (between (r .yl) (r .yh) k _ (m .low) (m .high)) }
-
--- ---- a job with such a region has no solution
 empty : (j : Job) → ((v : Point) → solves j v ≡ true → ⊥) → false ≡ not (isNil (full j))
 empty j h = sym (ap not (ap isNil (full-empty j .1 (λ v. no-solution j v (h v)))))
 
-pub void-first : (j : Job) → Void (j .a) → false ≡ not (isNil (full j))
-void-first j n = empty j (λ v e. n .none (j .k) _ _ (solves-true j v e .first))
+pub void-first : (j : Job) → isVoid (j .a) ≡ true → false ≡ not (isNil (full j))
+void-first j h = empty j (λ v e. void-none (j .a) (j .k) _ _ h (solves-true j v e .first))
 
-pub void-second : (j : Job) → Void (j .b) → false ≡ not (isNil (full j))
-void-second j n = empty j (λ v e. n .none (j .k) _ _ (solves-true j v e .second))
+pub void-second : (j : Job) → isVoid (j .b) ≡ true → false ≡ not (isNil (full j))
+void-second j h = empty j (λ v e. void-none (j .b) (j .k) _ _ h (solves-true j v e .second))

@@ -17,7 +17,6 @@ mod reduce;
 mod search;
 mod strips;
 mod units;
-mod void;
 
 use operator::Inverse;
 use operator::Operator;
@@ -52,10 +51,10 @@ fn searched(job: Job, caller: Operator) -> bool
     }
     let a = job.a;
     let b = job.b;
-    if void::is_void(a) {
+    if a.is_void() {
         return false;
     }
-    if void::is_void(b) {
+    if b.is_void() {
         return false;
     }
     search::search(job, reduce::oriented(job, in_force(job, caller)))

@@ -1,7 +1,7 @@
 -- Demand 3 (SPEC, "Demands") for our sessions: the theorems of `calls` in their world. A list of calls begins at the fresh session; each call's contract is one step.
 use mathlib.Core.Path.{_≡_}
 use mathlib.Core.List.{List, [], _∷_, _++_, map}
-use Prim.Native.Nat.{ℕ, _*_, min}
+use Prim.Native.Nat.{_*_, min}
 use lib.IntN.{ℤ}
 use lib.ListN.{length, take}
 use Rattle.ranks.specs.Members.{Rising}

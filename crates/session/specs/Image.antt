@@ -7,7 +7,6 @@ use Rattle.region.specs.declared.Job.{Job}
 use Rattle.region.specs.Selection.{listed}
 use Rattle.operator.specs.declared.Operator.{Operator}
 use Rattle.operator.specs.declared.Check.the-variants.{Special}
-use Rattle.operator.specs.declared.Inverse.the-variants as I
 use Rattle.operator.specs.Operator.{checkOf, imageOf, detWhole}
 use Rattle.operator.specs.Inverse.{adjugate, times, inverseOf}
 use Rattle.operator.specs.Undoes.{inverse-special, undoes}

@@ -1,7 +1,7 @@
 -- Calls of the code, one after another: the first gets a fresh session (`start`), each later one the session that the call before it left. Each link is what
 -- the contract of that call promises, and no more.
-use mathlib.Core.Path.{_≡_, refl, sym, ap, ap₂, _∙_}
-use mathlib.Core.List.{List, [], _∷_, _++_, map}
+use mathlib.Core.Path.{_≡_, refl, ap, ap₂, _∙_}
+use mathlib.Core.List.{List, [], _∷_}
 use Prim.Native.Nat.{ℕ}
 use lib.IntN.{ℤ}
 use Rattle.ring.specs.declared.Point.{Point}
@@ -11,7 +11,7 @@ use Rattle.calls.specs.Since.{Exchange, exchanges, sinceAfter}
 use Rattle.session.specs.declared.Session.{Session}
 use Rattle.session.specs.declared.Answer.{Answer}
 use Rattle.session.specs.World.{world}
-use Rattle.session.specs.Session.{meaning, fresh, answerOf, Steps, Gives, Hands}
+use Rattle.session.specs.Session.{meaning, fresh, answerOf, Steps, Hands}
 
 -- a call that was made: its arguments, what it answered, and the lent slice as it left it (none: [])
 pub record Made : Type 0 where

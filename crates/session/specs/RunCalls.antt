@@ -1,5 +1,5 @@
 -- Demand 3 for every run of the code's calls from a fresh session: the theorems of `Calls` over the answers, slices and sessions that the contracts promise.
-use mathlib.Core.Path.{_≡_, refl, sym, ap, ap₂, subst, _∙_}
+use mathlib.Core.Path.{_≡_, refl, sym, ap, ap₂, _∙_}
 use mathlib.Core.Bool.{Bool, true, false, cond}
 use mathlib.Core.List.{List, [], _∷_, _++_, map}
 use Prim.Native.Nat.{ℕ, _*_, min}
@@ -11,9 +11,8 @@ use Rattle.ranks.specs.Handed.{flat}
 use Rattle.walk.specs.Walk.{numbersOf}
 use Rattle.calls.specs.Session.{Call, handOut, step, answers, after, isRefused}
 use Rattle.calls.specs.Session as Model
-use Rattle.calls.specs.Rules.{Verdict, verdict, verdicts, begin}
-use Rattle.calls.specs.Since.{Exchange, exchanges, sinceAfter, since, points, spaces, fullOf}
-use Rattle.calls.specs.First.{Reports}
+use Rattle.calls.specs.Rules.{verdict, verdicts, begin}
+use Rattle.calls.specs.Since.{sinceAfter, since, points, spaces, fullOf}
 use Rattle.calls.specs.Refused.{unrefused, granted, refused-same, refused-lent}
 use Rattle.calls.specs.Operators.{struck, isHandOut, isIndependent, picked}
 use Rattle.record.specs.declared.Refusal.{Refusal}
@@ -23,7 +22,7 @@ use Rattle.session.specs.World.{world}
 use Rattle.session.specs.Session.{meaning, fresh, Hands}
 use Rattle.session.specs.Meaning.{Fits, meaning-one}
 use Rattle.session.specs.Calls.{left, session-rules, session-first, session-rising, session-count, session-end, session-refused, session-operators, session-others}
-use Rattle.session.specs.Run.{Made, Link, hand-out, From, none, then, Run, callsOf, answered, answersOf, exchangesOf, sinceOf, link-answer, link-session, from-answers, from-after, from-exchanges}
+use Rattle.session.specs.Run.{Made, Link, hand-out, From, none, then, Run, callsOf, answered, answersOf, sinceOf, link-answer, link-session, from-answers, from-after, from-exchanges}
 
 pub run-since : {ms : List Made} {t : Session} → Run ms t → sinceOf ms ≡ since world (callsOf ms)
 run-since r = ap (sinceAfter world []) (from-exchanges r)

@@ -1,9 +1,9 @@
 -- Demand 2 for every run of the code's calls: a finished walk has handed out the point v if and only if v solves the job and is selected.
-use mathlib.Core.Path.{_≡_, refl, sym, ap, subst, _∙_}
+use mathlib.Core.Path.{_≡_, refl, sym, ap, _∙_}
 use mathlib.Core.Bool.{Bool, true, false, not, false≢true}
 use mathlib.Core.List.{List, [], _∷_, map, List·Memᴰ, List·Memᴰ·head, List·Memᴰ·tail, List·Memᴰ·not-nil, List·Memᴰ·cases-cons}
 use mathlib.Core.Logic.{_↔_, ⊎-elim}
-use Prim.Native.Nat.{ℕ, zero, suc, _≤_, _<_}
+use Prim.Native.Nat.{ℕ, zero, suc, _<_}
 use native.Mathlib.Omega.{arith}
 use lib.IntN.{ℤ}
 use lib.ListN.{take}
@@ -32,7 +32,7 @@ use Rattle.session.specs.declared.Stage.the-variants as S
 use Rattle.session.specs.declared.Session.{Session}
 use Rattle.session.specs.declared.Answer.the-variants as A
 use Rattle.session.specs.World.{world}
-use Rattle.session.specs.Session.{stageOf, meaning, courseOf, Steps}
+use Rattle.session.specs.Session.{stageOf, meaning, Steps}
 use Rattle.session.specs.Run.{Made, Run, callsOf, sinceOf, from-after}
 use Rattle.session.specs.RunCalls.{listOf, run-since, run-first, run-rising}
 

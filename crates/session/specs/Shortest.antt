@@ -1,16 +1,15 @@
 -- The shortest pattern of a session's job: SPEC, "Shortest pattern". What `shortest` answers is the pattern of the job, whatever the place of the walk and the operator that is remembered; so
 -- the theorems of `shortest` about it hold of the answer.
-use mathlib.Core.Path.{_≡_, refl, sym, ap, _∙_}
+use mathlib.Core.Path.{_≡_, refl, sym, ap}
 use mathlib.Core.List.{[]}
 use Prim.Native.Nat.{ℕ}
 use native.Mathlib.Omega.{arith}
 use Rattle.ring.specs.declared.Point.{Point}
-use Rattle.region.specs.declared.Job.{Job}
 use Rattle.record.specs.declared.Refusal.the-variants.{NoPattern}
 use Rattle.shortest.specs.declared.Pattern.{Pattern}
 use Rattle.shortest.specs.declared.Pattern.the-variants as P
 use Rattle.shortest.specs.Pattern.{patternOf}
-use Rattle.calls.specs.Session.{shortest, found, refused, best}
+use Rattle.calls.specs.Session.{shortest, found}
 use Rattle.calls.specs.Session as Model
 use Rattle.session.specs.declared.Course.{Course}
 use Rattle.session.specs.declared.Stage.the-variants as S

@@ -20,7 +20,6 @@ use Rattle.record.specs.declared.Record.{Record}
 use Rattle.record.specs.declared.Record.the-variants as R
 use Rattle.record.specs.declared.Turn.{Turn}
 use Rattle.record.specs.declared.Turn.the-variants as T
-use Rattle.record.specs.declared.Kind.{Kind}
 use Rattle.record.specs.declared.Kind.the-variants as K
 use Rattle.record.specs.declared.Reading as Read
 use Rattle.record.specs.declared.Reading.the-variants as RV

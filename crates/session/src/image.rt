@@ -3,8 +3,8 @@ ghost use mathlib.Core.Path.{_≡_};
 ghost use Rattle.operator.specs.Operator.{wide};
 ghost use Rattle.region.specs.Selection.{listed};
 ghost use Rattle.session.specs.World.{isImage};
-use integers::Narrow;
 use operator::Inverse;
+use operator::Narrowed;
 use operator::Operator;
 use operator::WidePoint;
 use region::Job;
@@ -25,26 +25,9 @@ pub(crate) fn is_image(job: Job, g: Operator, w: Point) -> bool
 fn lists_wide(job: Job, v: WidePoint) -> bool
     ensures { λ r. ⌜ r ≡ listed job (wide v) ⌝ }
 {
-    let na = integers::to_i32(v.a);
-    let Narrow::Fits(a) = na else {
-        return false;
-    };
-    let nb = integers::to_i32(v.b);
-    let Narrow::Fits(b) = nb else {
-        return false;
-    };
-    let nc = integers::to_i32(v.c);
-    let Narrow::Fits(c) = nc else {
-        return false;
-    };
-    let nd = integers::to_i32(v.d);
-    let Narrow::Fits(d) = nd else {
-        return false;
-    };
-    job.lists(Point {
-        a: a,
-        b: b,
-        c: c,
-        d: d,
-    })
+    let n = v.narrow();
+    match n {
+        Narrowed::Fits(u) => job.lists(u),
+        Narrowed::TooWide => false,
+    }
 }

@@ -1,7 +1,7 @@
 // A session and its calls, by value: SPEC, "Walk" and "Calls". Each call's contract is one step of the model in `calls`.
 ghost use mathlib.Core.Path.{_≡_};
 ghost use mathlib.Core.List.{[]};
-ghost use Rattle.calls.specs.Session.{reading, handOut, rewind, clear, plain, imageOf, shortest, found};
+ghost use Rattle.calls.specs.Session.{reading, rewind, clear, plain, imageOf, shortest, found};
 ghost use Rattle.session.specs.World.{world, bestOf, turnAt};
 ghost use Rattle.session.specs.Session.{fresh, turnOf, answerOf, Steps, Hands};
 

@@ -23,15 +23,15 @@ use Rattle.region.specs.Over.{scale, scale-limits, Over}
 use Rattle.region.specs.Reach.{reachOf}
 use Rattle.region.specs.ReachOver.{reach-over, reach-size}
 use Rattle.region.specs.Membership.{solves-true}
+use Rattle.region.specs.Void.{isVoid, void-none}
 use Rattle.shortest.specs.Pattern.{qualifies}
-use Rattle.shortest.specs.Void.{Void}
 use Rattle.shortest.specs.Disk.{disk, qualifies-solves, qualifies-disks}
 
 pub record Apart-if (r s : Region) (b : Bool) : Type 0 where
   pub none : b ≡ true → (k : ℕ) (X Y : RootTwo) → holds r (√2^ (suc k)) X Y ≡ true → holds s (√2^ (suc k)) X Y ≡ true → ⊥
 
-pub void-apart : (r s : Region) → Void r → Apart-if r s true
-void-apart r s h = record { none = λ e k X Y x y. h .none k X Y x }
+pub void-apart : (r s : Region) → isVoid r ≡ true → Apart-if r s true
+void-apart r s h = record { none = λ e k X Y x y. void-none r k X Y h x }
 
 -- ---- 0 ≤ z w leaves no z below 0
 weight-one : (k : ℕ) → num (pos 1) ⊑ √2^ (suc k)

@@ -1,6 +1,6 @@
 -- No u and t that solve the equation, with u in A and its conjugate in B, up to the top scale, have a smaller m than the pattern's: SPEC, "Shortest pattern".
 use mathlib.Core.Path.{_≡_, refl, sym, ap, subst, _∙_}
-use mathlib.Core.Bool.{Bool, true, false, not, false≢true}
+use mathlib.Core.Bool.{Bool, true, not, false≢true}
 use mathlib.Core.List.{List, [], _∷_, List·Memᴰ·not-nil, List·Memᴰ·head}
 use mathlib.Core.Logic.{_↔_}
 use Prim.Native.Nat.{ℕ, zero, suc, _+_, _≤_, _<_}
@@ -35,7 +35,7 @@ use Rattle.shortest.specs.Pair.{over-both, step, m-rises}
 use Rattle.shortest.specs.Scale.{scale-law}
 use Rattle.shortest.specs.Disk.{head-completes, entry-completes, qualifies-listed, qualifies-entry, qualifies-solves}
 
--- "u and t that solve Ticket 2's equation, with u in A and its conjugate in B", at scale i
+-- u in A and its conjugate in B, and u and t solve the equation of SPEC, "Other entry", at scale i
 pub record Pairs (j : Job) (i : ℕ) (u t : Point) : Type 0 where
   pub inside : solves (at j i) u ≡ true
   pub equation : completes i u t ≡ true

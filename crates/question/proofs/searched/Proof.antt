@@ -16,13 +16,13 @@ is-void-requires : tie.Need-is-void-requires
 is-void-requires c κs = search needs
 
 returns-2 : tie.Need-returns-2
-returns-2 c = void-first (c .before .before .before .before .args .job) (c .before .is-void .ensures (c .if2 .taken))
+returns-2 c = void-first (c .before .before .before .before .args .job) (sym (c .before .is-void .ensures) ∙ c .if2 .taken)
 
 is-void-requires-2 : tie.Need-is-void-requires-2
 is-void-requires-2 c κs = search needs
 
 returns-3 : tie.Need-returns-3
-returns-3 c = void-second (c .before .before .before .before .before .before .args .job) (c .before .is-void2 .ensures (c .if3 .taken))
+returns-3 c = void-second (c .before .before .before .before .before .before .args .job) (sym (c .before .is-void2 .ensures) ∙ c .if3 .taken)
 
 in-force-requires : tie.Need-in-force-requires
 in-force-requires c κs = let e = c .before .before .before .before in sym (e .before .is-accepted .ensures) ∙ not-false _ (e .if1 .left)

@@ -1,6 +1,4 @@
-use mathlib.Core.Path.{refl, ap, _∙_}
-use Rattle.calls.specs.Session.{found}
-use Rattle.session.specs.World.{world, bestOf}
+use mathlib.Core.Path.{refl}
 use borrow.Author.Needs.{needs}
 use Rattle.session.proofs.shortest.Statement.{statement}
 use Rattle.session.proofs.shortest.Tie as tie

@@ -1,12 +1,8 @@
-use mathlib.Core.Path.{_≡_, refl, sym, ap, _∙_}
+use mathlib.Core.Path.{refl}
 use Rattle.session.specs.Session.{course-hands}
 use borrow.Author.Needs.{needs}
 use Rattle.session.proofs.hand.from_course.Statement.{statement}
 use Rattle.session.proofs.hand.from_course.Tie as tie
-use Rattle.session.proofs.hand.from_course.Reads as reads
-use Rattle.session.proofs.hand.from_course.Lts as lts
-use Rattle.session.proofs.hand.from_spot.Reads as from-spot-reads
-use Rattle.session.proofs.hand.after_end.Reads as after-end-reads
 
 enum-told : tie.Need-enum-told
 enum-told c = search needs

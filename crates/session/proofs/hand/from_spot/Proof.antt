@@ -1,12 +1,7 @@
-use mathlib.Core.Path.{_≡_, refl, sym, ap, _∙_}
 use Rattle.session.specs.Session.{gave-gives, empty-gives}
 use borrow.Author.Needs.{needs}
 use Rattle.session.proofs.hand.from_spot.Statement.{statement}
 use Rattle.session.proofs.hand.from_spot.Tie as tie
-use Rattle.session.proofs.hand.from_spot.Reads as reads
-use Rattle.session.proofs.hand.from_spot.Lts as lts
-use Rattle.session.proofs.place.is_ended.Reads as is-ended-reads
-use Rattle.walk.proofs.hand_out.Reads as hand-out-reads
 
 is-empty-requires : tie.Need-is-empty-requires
 is-empty-requires c κs = search needs

@@ -1,40 +1,28 @@
 use Rattle.session.specs.World.{isImage}
-use mathlib.Core.Path.{_≡_, refl, sym, ap, ap₂, _∙_}
+use mathlib.Core.Path.{refl, sym, _∙_}
 use borrow.Author.Needs.{needs}
 use Rattle.session.proofs.image.is_image.Statement.{statement}
 use Rattle.session.proofs.image.is_image.Tie as tie
-use Rattle.session.proofs.image.is_image.Reads as reads
-use Rattle.session.proofs.image.is_image.Lts as lts
-use Rattle.operator.proofs.Operator.image.Reads as image-reads
-use Rattle.operator.proofs.Operator.inverse.Reads as inverse-reads
-use Rattle.session.proofs.image.lists_wide.Reads as lists-wide-reads
 
--- src/image.rt:17:9
 inverse-requires : tie.Need-inverse-requires
 inverse-requires c κs = search needs
 
--- src/image.rt:19:27
 enum-known-i : tie.Need-enum-known-i
 enum-known-i c = search needs
 
--- src/image.rt:19:50
 image-requires : tie.Need-image-requires
 image-requires c κs = search needs
 
--- src/image.rt:19:33
 lists-wide-requires : tie.Need-lists-wide-requires
 lists-wide-requires c κs = search needs
 
--- src/image.rt:20:32
 enum-told : tie.Need-enum-told
 enum-told c = search needs
 
--- src/image.rt:14:1
 returns : tie.Need-returns
 unfolding isImage
 returns c = c .lists-wide .ensures ∙ rw (sym (c .before .before .before .before .before .inverse .ensures .inverse) ∙ c .before .before .before .i .given .1, c .before .image .ensures) refl
 
--- src/image.rt:14:1
 returns-2 : tie.Need-returns-2
 unfolding isImage
 returns-2 c = rw (sym (c .before .before .inverse .ensures .inverse) ∙ c .enum-told .given .1) refl

@@ -7,11 +7,9 @@ use mir.Facts.{toZ-ofZ}
 use Rattle.ranks.specs.Rank.{rank-zero}
 use Rattle.cuts.specs.Digits.{span, digit}
 use mathlib.Core.Path.{_≡_, sym, ap, _∙_, subst⁻¹}
-use mathlib.Core.Bool.{Bool, true, false, not, false≢true}
+use mathlib.Core.Bool.{false≢true}
 use Rattle.session.proofs.place.is_least.Statement.{statement}
 use Rattle.session.proofs.place.is_least.Tie as tie
-use Rattle.session.proofs.place.is_least.Reads as reads
-use Rattle.session.proofs.place.is_least.Lts as lts
 
 fits-a : (s : tie.Start) → SFits w32 (s .args .v .a)
 fits-a s = search needs

@@ -1,4 +1,4 @@
-use mathlib.Core.Path.{ap, subst, _∙_}
+use mathlib.Core.Path.{sym, ap, subst, _∙_}
 use borrow.Author.Needs.{needs}
 use Rattle.region.specs.Region.{accepted}
 use Rattle.shortest.specs.Disk.{disk-accepted}
@@ -10,7 +10,7 @@ is-void-requires : tie.Need-is-void-requires
 is-void-requires c κs = search needs
 
 returns : tie.Need-returns
-returns c = void-apart _ _ (c .before .is-void .ensures (c .if1 .taken))
+returns c = void-apart _ _ (sym (c .before .is-void .ensures) ∙ c .if1 .taken)
 
 disk-requires : tie.Need-disk-requires
 disk-requires c κs = search needs
