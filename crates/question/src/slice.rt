@@ -93,11 +93,7 @@ fn lesser(d: RootTwo, c: RootTwo) -> RootTwo
     if !is_small(c) {
         return d;
     }
-    if nonneg(d.p - c.p, d.q - c.q) {
-        c
-    } else {
-        d
-    }
+    if nonneg(d.p - c.p, d.q - c.q) { c } else { d }
 }
 
 // What the whole direction near e·(u, v) says of (u, v), where that is less than d.
