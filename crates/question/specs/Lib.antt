@@ -6,6 +6,7 @@ pub mod Reach
 pub mod Rows
 pub mod Search
 pub mod Sizes
+pub mod Slice
 pub mod Strips
 pub mod Units
 pub mod Void

@@ -15,6 +15,7 @@ mod lines;
 mod reach;
 mod reduce;
 mod search;
+mod slice;
 mod strips;
 mod units;
 

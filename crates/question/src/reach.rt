@@ -7,16 +7,15 @@ ghost use Rattle.ring.specs.RootTwo.{num};
 ghost use Rattle.ring.specs.RootTwo.Order.{nonneg, _⊑_};
 ghost use Rattle.region.specs.Region.{accepted};
 ghost use Rattle.region.specs.Sizes.{Sized};
-ghost use Rattle.region.specs.ReachOver.{Bounds};
 ghost use Rattle.region.specs.declared.Region.the-variants as R;
-ghost use Rattle.question.specs.Reach.{reachSize, Direction, farEnd, widthOf, Half-width, Either, Reaches};
+ghost use Rattle.question.specs.Reach.{Direction, farEnd, widthOf, Half-width, Reaches};
 use crate::exact::combined;
 use crate::exact::product;
+use crate::slice;
 use line::row::nonneg;
 use region::Ellipse;
 use region::Rectangle;
 use region::Region;
-use region::Slice;
 use ring::RootTwo;
 
 // The end of lo..hi at which u·z is greatest.
@@ -79,7 +78,7 @@ fn half_width(e: Ellipse, u: RootTwo, v: RootTwo) -> u64
     region::reach::ceil_sqrt((s * f + (d - 1)) / d)
 }
 
-fn over_ellipse(e: Ellipse, u: RootTwo, v: RootTwo) -> RootTwo
+pub(crate) fn over_ellipse(e: Ellipse, u: RootTwo, v: RootTwo) -> RootTwo
     requires { ⌜ (accepted (R.Ellipse e) ≡ true) × Direction u v ⌝ }
     ensures { λ h. ⌜ Reaches (R.Ellipse e) u v h ⌝ }
 {
@@ -91,42 +90,6 @@ fn over_ellipse(e: Ellipse, u: RootTwo, v: RootTwo) -> RootTwo
     }
 }
 
-// The number a + b√2 where that is small and at most d, else d.
-fn lesser(d: RootTwo, a: i64, b: i64) -> RootTwo
-    requires { ⌜ Sized reachSize reachSize d × (natAbs a ≤ 2 ^ 31) × (natAbs b ≤ 2 ^ 31) ⌝ }
-    ensures { λ r. ⌜ Either d a b r ⌝ }
-{
-    if 33554432 < integers::abs(a) {
-        return d;
-    }
-    if 33554432 < integers::abs(b) {
-        return d;
-    }
-    if nonneg(d.p - a, d.q - b) {
-        RootTwo { p: a, q: b }
-    } else {
-        d
-    }
-}
-
-// The slice's bound in a whole direction.
-fn whole(s: Slice, u: i64, v: i64) -> i64
-    requires { ⌜ (accepted (R.Slice s) ≡ true) × (natAbs u ≤ 200) × (natAbs v ≤ 200) ⌝ }
-    ensures { λ r. ⌜ Bounds (R.Slice s) u v r ⌝ }
-{
-    let r = Region::Slice(s);
-    r.bound(u as i16, v as i16)
-}
-
-// No farther than the disk, nor than the whole directions that (u, v) is made of.
-fn over_slice(s: Slice, u: RootTwo, v: RootTwo) -> RootTwo
-    requires { ⌜ (accepted (R.Slice s) ≡ true) × Direction u v ⌝ }
-    ensures { λ h. ⌜ Reaches (R.Slice s) u v h ⌝ }
-{
-    let d = over_ellipse(s.disk(), u, v);
-    lesser(d, whole(s, u.p, v.p), whole(s, u.q, v.q))
-}
-
 pub(crate) fn over(region: Region, u: RootTwo, v: RootTwo) -> RootTwo
     requires { ⌜ (accepted region ≡ true) × Direction u v ⌝ }
     ensures { λ h. ⌜ Reaches region u v h ⌝ }
@@ -134,6 +97,6 @@ pub(crate) fn over(region: Region, u: RootTwo, v: RootTwo) -> RootTwo
     match region {
         Region::Rectangle(r) => over_rectangle(r, u, v),
         Region::Ellipse(e) => over_ellipse(e, u, v),
-        Region::Slice(s) => over_slice(s, u, v),
+        Region::Slice(s) => slice::over_slice(s, u, v),
     }
 }

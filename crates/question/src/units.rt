@@ -18,7 +18,7 @@ use ring::RootTwo;
 const LARGEST: u64 = 137438953472;
 
 // (3 + 2√2)^n for n up to 7, and the last one past it.
-fn unit(n: u64) -> RootTwo
+pub(crate) fn unit(n: u64) -> RootTwo
     ensures { λ r. ⌜ Unit r ⌝ }
 {
     match n {

@@ -1,6 +1,6 @@
 -- How far a slice reaches: no farther than its disk, and no farther than a sum of the disk's cut and a multiple of the half plane says. Both are cuts, and a
--- cut times a natural number and the sum of two cuts are cuts, so that no multiple needs a proof.
-use mathlib.Core.Path.{_≡_, refl, sym, _∙_, subst}
+-- cut times a natural number and the sum of two cuts are cuts, so that no multiple needs a proof. Where the half plane only touches the disk, they have one point in common.
+use mathlib.Core.Path.{_≡_, refl, sym, _∙_, ap, ap₂, subst}
 use mathlib.Core.List.{[], _∷_}
 use mathlib.Core.Bool.{true}
 use Prim.Native.Nat.{ℕ, _+_, _*_, _^_, _≤_, zero-le}
@@ -11,16 +11,18 @@ use lib.IntN.{ℤ, pos, negsuc, negℤ, natAbs, _+ℤ_, _-ℤ_, _*ℤ_}
 use lib.Signed.{yes-nonNeg, pos-natAbs}
 use borrow.Author.Tests.{leb-true, le-leb}
 use Rattle.integers.specs.Difference.{by⊖, zz, _≼_, _≺_}
+use Rattle.integers.specs.Order.{≼-trans}
 use Rattle.integers.specs.Ring.{poly, by-ring}
 use Rattle.integers.specs.RingZ.{polyZ}
 use Rattle.integers.specs.RingZ as Z
 use Rattle.ring.specs.declared.RootTwo.{RootTwo}
-use Rattle.ring.specs.RootTwo.{_⊞_, _⊟_, _⊠_, num, ring√, num-+, num-*, num-neg}
-use Rattle.ring.specs.RootTwo.Order.{Nn, _⊑_, nn-by, nn-+, nn-*, nn-num, nn-cancel, num-⊑}
+use Rattle.ring.specs.RootTwo.{_⊞_, _⊟_, _⊠_, neg, num, ring√, num-+, num-*, num-neg}
+use Rattle.ring.specs.RootTwo.Order.{Nn, _⊑_, nn-by, nn-+, nn-*, nn-num, nn-cancel, num-⊑, sq-⊑}
+use Rattle.ring.specs.RootTwo.Order as O
 use Rattle.region.specs.declared.Slice.{Slice}
 use Rattle.region.specs.declared.Region.the-variants as R
 use Rattle.region.specs.declared.half.Fraction.{Fraction}
-use Rattle.region.specs.Region.{discriminant, disk}
+use Rattle.region.specs.Region.{discriminant, form, disk}
 use Rattle.region.specs.Membership.{holds-in, holds-disk}
 use Rattle.region.specs.Reach.{width2}
 use Rattle.region.specs.Least.{ceilDiv, ceil-div-≤}
@@ -47,6 +49,62 @@ over-half s u v h m p q one l o w X Y hw t =
         ≡ Q ⊠ (h ⊠ w ⊟ (u ⊠ x ⊞ v ⊠ y))
     sum Q P u v a b c m h w x y = by-ring ring√ (Q ∷ P ∷ u ∷ v ∷ a ∷ b ∷ c ∷ m ∷ h ∷ w ∷ x ∷ y ∷ []) (search poly depth 60 fits 5000) refl
 
+square : (a : ℤ) → a *ℤ a ≡ pos (natAbs a * natAbs a)
+square (pos n) = refl
+square (negsuc n) = refl
+
+-- ---- the half plane leaves one point of the disk at most: w is at least n |z|
+pub record One-point (s : Slice) : Type 0 where
+  pub positive : pos 1 ≼ s .w
+  pub enough : pos (s .n) *ℤ pos (s .n) *ℤ (s .zx *ℤ s .zx +ℤ s .zy *ℤ s .zy) ≼ s .w *ℤ s .w
+
+pub one-point : (s : Slice) (f w : ℕ) → f ≡ natAbs (s .zx *ℤ s .zx +ℤ s .zy *ℤ s .zy) → w ≡ natAbs (s .w) → pos 1 ≼ s .w → s .n * s .n * f ≤ w * w → One-point s
+one-point s f w ef ew one h =
+    let z : s .zx *ℤ s .zx +ℤ s .zy *ℤ s .zy ≡ pos f = ap₂ _+ℤ_ (square (s .zx)) (square (s .zy)) ∙ ap pos (sym (ef ∙ ap natAbs (ap₂ _+ℤ_ (square (s .zx)) (square (s .zy))))) in
+    record { positive = one; enough = rw (z, square (s .w), sym ew) (record { le = le→leb (s .n * s .n * f) (w * w) h }) }
+
+-- S = w x − n² zx W and T = w y − n² zy W are 0, as −(S² + T²) is a sum of what the slice says; so w (u x + v y) is n² (u zx + v zy) W
+pub over-point : (s : Slice) (u v h : ℤ) → One-point s → pos (s .n) *ℤ pos (s .n) *ℤ (u *ℤ s .zx +ℤ v *ℤ s .zy) ≼ s .w *ℤ h → Over (R.Slice s) u v h
+over-point s u v h o l w X Y hw t =
+    let n = num (pos (s .n)) in
+    let N = n ⊠ n in
+    let c = num (s .w) in
+    let a = num (s .zx) in
+    let b = num (s .zy) in
+    let m = holds-in (R.Slice s) w X Y t in
+    let near = nn-by (ap (λ k. k ⊠ (w ⊠ w) ⊟ form (disk s) (n ⊠ X ⊟ num (pos 0) ⊠ w) (n ⊠ Y ⊟ num (pos 0) ⊠ w)) (num-* (pos (s .n)) (pos (s .n))) ∙ round N w (n ⊠ X) (n ⊠ Y)) (m .within .near) in
+    let long = simp (num-*, num-+, num-neg) at (num-⊑ (o .enough)) in
+    let far = simp (num-*, num-+, num-neg) at (num-⊑ l) in
+    let hc = nn-num {k = s .w} (≼-trans (pos 0) (pos 1) (s .w) (record { le = tt }) (o .positive)) in
+    let hN = O.nn-sq n in
+    let S = c ⊠ (n ⊠ X) ⊟ N ⊠ a ⊠ w in
+    let T = c ⊠ (n ⊠ Y) ⊟ N ⊠ b ⊠ w in
+    let none = nn-by (squares c N a b w (n ⊠ X) (n ⊠ Y))
+        (nn-+ (nn-+ (nn-* (O.nn-sq c) near) (nn-* (nn-* (nn-* hc hN) (nn-* (nn-num {k = pos 2} (record { le = tt })) hw)) (m .beyond))) (nn-* (nn-* hN (O.nn-sq w)) long)) in
+    let zero = sq-⊑ (num u ⊠ S ⊞ num v ⊠ T) (num (pos 0)) (nn-num {k = pos 0} (record { le = tt }))
+        (nn-by (cauchy (num u) (num v) S T) (nn-+ (nn-* (nn-+ (O.nn-sq (num u)) (O.nn-sq (num v))) none) (O.nn-sq (num u ⊠ T ⊟ num v ⊠ S)))) in
+    nn-cancel c _ (num-⊑ (o .positive)) (nn-by (rest c N a b (num u) (num v) (num h) w (n ⊠ X) (n ⊠ Y)) (nn-+ (nn-* far hw) zero))
+  where
+    round : (N w x y : RootTwo)
+        → N ⊠ (w ⊠ w) ⊟ (num (pos 1) ⊠ ((x ⊟ num (pos 0) ⊠ w) ⊠ (x ⊟ num (pos 0) ⊠ w)) ⊞ num (pos 2) ⊠ (num (pos 0) ⊠ ((x ⊟ num (pos 0) ⊠ w) ⊠ (y ⊟ num (pos 0) ⊠ w))) ⊞ num (pos 1) ⊠ ((y ⊟ num (pos 0) ⊠ w) ⊠ (y ⊟ num (pos 0) ⊠ w)))
+        ≡ N ⊠ (w ⊠ w) ⊟ (x ⊠ x ⊞ y ⊠ y)
+    round N w x y = by-ring ring√ (N ∷ w ∷ x ∷ y ∷ []) (search poly depth 40) refl
+
+    squares : (c N a b w x y : RootTwo)
+        → c ⊠ c ⊠ (N ⊠ (w ⊠ w) ⊟ (x ⊠ x ⊞ y ⊠ y)) ⊞ c ⊠ N ⊠ (num (pos 2) ⊠ w) ⊠ (a ⊠ x ⊞ b ⊠ y ⊟ c ⊠ w) ⊞ N ⊠ (w ⊠ w) ⊠ (c ⊠ c ⊟ N ⊠ (a ⊠ a ⊞ b ⊠ b))
+        ≡ neg ((c ⊠ x ⊟ N ⊠ a ⊠ w) ⊠ (c ⊠ x ⊟ N ⊠ a ⊠ w) ⊞ (c ⊠ y ⊟ N ⊠ b ⊠ w) ⊠ (c ⊠ y ⊟ N ⊠ b ⊠ w))
+    squares c N a b w x y = by-ring ring√ (c ∷ N ∷ a ∷ b ∷ w ∷ x ∷ y ∷ []) (search poly depth 60 fits 5000) refl
+
+    cauchy : (u v S T : RootTwo)
+        → (u ⊠ u ⊞ v ⊠ v) ⊠ neg (S ⊠ S ⊞ T ⊠ T) ⊞ (u ⊠ T ⊟ v ⊠ S) ⊠ (u ⊠ T ⊟ v ⊠ S)
+        ≡ num (pos 0) ⊠ num (pos 0) ⊟ (u ⊠ S ⊞ v ⊠ T) ⊠ (u ⊠ S ⊞ v ⊠ T)
+    cauchy u v S T = by-ring ring√ (u ∷ v ∷ S ∷ T ∷ []) (search poly depth 40) refl
+
+    rest : (c N a b u v h w x y : RootTwo)
+        → (c ⊠ h ⊟ N ⊠ (u ⊠ a ⊞ v ⊠ b)) ⊠ w ⊞ (num (pos 0) ⊟ (u ⊠ (c ⊠ x ⊟ N ⊠ a ⊠ w) ⊞ v ⊠ (c ⊠ y ⊟ N ⊠ b ⊠ w)))
+        ≡ c ⊠ (h ⊠ w ⊟ (u ⊠ x ⊞ v ⊠ y))
+    rest c N a b u v h w x y = by-ring ring√ (c ∷ N ∷ a ∷ b ∷ u ∷ v ∷ h ∷ w ∷ x ∷ y ∷ []) (search poly depth 60 fits 5000) refl
+
 -- ---- the disk's reach in a long direction: n √(a² + b²), rounded up
 pub record Length (n : ℕ) (a b : ℤ) (m : ℕ) : Type 0 where
   pub enough : n * n * (natAbs a * natAbs a + natAbs b * natAbs b) ≤ m * m
@@ -63,10 +121,6 @@ over-length s a b m l =
 
     width : (a b : ℤ) → width2 (disk s) a b ≡ a *ℤ a +ℤ b *ℤ b
     width a b = Z.by-ring (a ∷ b ∷ []) (search polyZ depth 30) refl
-
-    square : (a : ℤ) → a *ℤ a ≡ pos (natAbs a * natAbs a)
-    square (pos n) = refl
-    square (negsuc n) = refl
 
     enough : pos (s .n * s .n) *ℤ pos (natAbs a * natAbs a + natAbs b * natAbs b) ≼ pos m *ℤ pos m *ℤ discriminant (disk s)
     enough = record { le = le→leb (s .n * s .n * (natAbs a * natAbs a + natAbs b * natAbs b)) (m * m * 1) (omega (arith, l .enough)) }

@@ -1,5 +1,5 @@
 // How far a slice reaches in the direction (u, v): no farther than its disk, nor than q·(u, v) + p·(zx, zy) in the disk, less p·w, over q, for any p and q. A
-// good p/q is guessed; no proof rests on it.
+// good p/q is guessed; no proof rests on it. Where the half plane only touches the disk, no farther than the point n²·z/w.
 ghost use mathlib.Core.Path.{_≡_};
 ghost use mathlib.Core.Bool.{true};
 ghost use Prim.Native.Nat.{_^_, _≤_};
@@ -8,7 +8,7 @@ ghost use lib.IntN.{pos, natAbs, _+ℤ_, _-ℤ_, _*ℤ_};
 ghost use Rattle.region.specs.Region.{accepted};
 ghost use Rattle.region.specs.Accepted.{Slice-limits};
 ghost use Rattle.region.specs.ReachOver.{topDirection, Bounds};
-ghost use Rattle.region.specs.Slice.{Length, Quotient, Fraction-size};
+ghost use Rattle.region.specs.Slice.{One-point, Length, Quotient, Fraction-size};
 use crate::Region;
 use crate::Slice;
 use crate::reach::ceil_sqrt;
@@ -25,9 +25,35 @@ impl Slice {
         requires { ⌜ (accepted (Region.Slice self) ≡ true) × (natAbs u ≤ topDirection) × (natAbs v ≤ topDirection) ⌝ }
         ensures { λ r. ⌜ Bounds (Region.Slice self) u v r ⌝ }
     {
-        let d = self.disk().reach(u, v);
+        let d = self.point(u, v, self.disk().reach(u, v));
         let f = self.fraction(u, v);
         self.sum(u, v, f.p, f.q, d)
+    }
+
+    // Whether the half plane leaves one point of the disk at most: w is at least n times the length of z.
+    pub fn is_point(self) -> bool
+        ensures { λ r. ⌜ (r ≡ true → One-point self) ⌝ }
+    {
+        if self.w < 1 {
+            return false;
+        }
+        let n = self.n as u64;
+        let w = integers::abs(self.w as i64);
+        let f = integers::abs(inner(self.zx, self.zy, self.zx, self.zy));
+        n * n * f <= w * w
+    }
+
+    // What the point n²·z/w says of (u, v), where there is no other and that is less than d.
+    fn point(self, u: i16, v: i16, d: i64) -> i64
+        requires { ⌜ (accepted (Region.Slice self) ≡ true) × Bounds (Region.Slice self) u v d ⌝ }
+        ensures { λ r. ⌜ Bounds (Region.Slice self) u v r ⌝ }
+    {
+        if !self.is_point() {
+            return d;
+        }
+        let w = integers::abs(self.w as i64);
+        let h = quotient(multiplied(self.n, inner(u, v, self.zx, self.zy)), w);
+        if h < d { h } else { d }
     }
 
     // What q·(u, v) + p·(zx, zy) says of (u, v), where that is less than d.
@@ -70,6 +96,14 @@ impl Slice {
     }
 }
 
+// n²·t.
+fn multiplied(n: u16, t: i64) -> i64
+    requires { ⌜ (n ≤ 100) × (natAbs t ≤ 2 ^ 31) ⌝ }
+    ensures { λ r. ⌜ (r ≡ pos n *ℤ pos n *ℤ t) × (natAbs r ≤ 2 ^ 45) ⌝ }
+{
+    n as i64 * n as i64 * t
+}
+
 // q·u + p·z.
 fn along(q: u64, u: i16, p: u64, z: i16) -> i64
     requires { ⌜ (q ≤ 256) × (p ≤ 2 ^ 41) ⌝ }
@@ -105,7 +139,7 @@ fn less(m: u64, p: u64, w: i32) -> i64
 
 // t/q, rounded up, and −2³¹ for less.
 fn quotient(t: i64, q: u64) -> i64
-    requires { ⌜ (natAbs t ≤ 2 ^ 62) × (1 ≤ q) × (q ≤ 256) ⌝ }
+    requires { ⌜ (natAbs t ≤ 2 ^ 62) × (1 ≤ q) × (q ≤ 1000000) ⌝ }
     ensures { λ r. ⌜ Quotient t q r ⌝ }
 {
     let s = t + 2147483648 * q as i64;
@@ -117,7 +151,7 @@ fn quotient(t: i64, q: u64) -> i64
 
 // u·x + v·y.
 fn inner(u: i16, v: i16, x: i16, y: i16) -> i64
-    ensures { λ r. ⌜ natAbs r ≤ 2 ^ 31 ⌝ }
+    ensures { λ r. ⌜ (r ≡ u *ℤ x +ℤ v *ℤ y) × (natAbs r ≤ 2 ^ 31) ⌝ }
 {
     product(u, x as i32) + product(v, y as i32)
 }

@@ -14,20 +14,25 @@ disk-requires c κs = search needs
 reach-requires : tie.Need-reach-requires
 reach-requires c κs = rw (c .disk .ensures) (disk-accepted (c .before .args .self) (c .before .pre .0))
 
+point-requires : tie.Need-point-requires
+point-requires c κs =
+    let s = c .before .before in
+    let r = back w64 (c .reach .ok) ∙ (simp (c .before .disk .ensures, toZ-ofZ (s .fits .u), toZ-ofZ (s .fits .v)) at (c .reach .ensures)) in
+    (s .pre .0, rw (toZ-ofZ (s .fits .u), toZ-ofZ (s .fits .v), r) (disk-bounds (s .args .self) (s .args .u) (s .args .v) (s .pre .0) (s .pre .1) (s .pre .2)))
+
 fraction-requires : tie.Need-fraction-requires
-fraction-requires c κs = slice-limits (c .before .before .args .self) (c .before .before .pre .0)
+fraction-requires c κs = let s = c .before .before .before in slice-limits (s .args .self) (s .pre .0)
 
 sum-requires : tie.Need-sum-requires
 sum-requires c κs =
-    let s = c .before .before .before in
-    let d = c .before .before in
+    let s = c .before .before .before .before in
     let e = c .fraction .ensures in
-    let r = back w64 (c .before .reach .ok) ∙ (simp (d .disk .ensures, toZ-ofZ (s .fits .u), toZ-ofZ (s .fits .v)) at (c .before .reach .ensures)) in
-    (s .pre .0, e .p-size, e .q-low, e .q-high, rw (toZ-ofZ (s .fits .u), toZ-ofZ (s .fits .v), r) (disk-bounds (s .args .self) (s .args .u) (s .args .v) (s .pre .0) (s .pre .1) (s .pre .2)))
+    let h = c .before .point in
+    (s .pre .0, e .p-size, e .q-low, e .q-high, rw (toZ-ofZ (s .fits .u), toZ-ofZ (s .fits .v), back w64 (h .ok)) (simp (toZ-ofZ (s .fits .u), toZ-ofZ (s .fits .v)) at (h .ensures)))
 
 returns : tie.Need-returns
-returns c = let s = c .before .before .before .before in rw (back w64 (c .sum .ok)) (simp (toZ-ofZ (s .fits .u), toZ-ofZ (s .fits .v)) at (c .sum .ensures))
+returns c = let s = c .before .before .before .before .before in rw (back w64 (c .sum .ok)) (simp (toZ-ofZ (s .fits .u), toZ-ofZ (s .fits .v)) at (c .sum .ensures))
 
 pub bound-spec : {M : Type 1} → statement M
 bound-spec =
-    tie.close (tie.spec disk-requires reach-requires fraction-requires sum-requires returns)
+    tie.close (tie.spec disk-requires reach-requires point-requires fraction-requires sum-requires returns)

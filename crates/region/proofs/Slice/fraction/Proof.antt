@@ -45,7 +45,7 @@ module _ (c : tie.After-abs2) where
   squares = mul-le-mul (s .pre .n-high) (s .pre .n-high)
 
   norm : c .abs2 .result ≤ 2 ^ 31
-  norm = rw (c .abs2 .ensures, back w64 (c .before .inner .ok)) (c .before .inner .ensures)
+  norm = rw (c .abs2 .ensures, back w64 (c .before .inner .ok)) (c .before .inner .ensures .1)
 
   product : s .args .self .n * s .args .self .n * c .abs2 .result ≤ 2 ^ 45
   product = omega (arith, mul-le-mul squares norm)
@@ -65,7 +65,7 @@ inner-requires-2 c κs = search needs
 multiple-requires : tie.Need-multiple-requires
 multiple-requires c κs =
     let k = c .before .before .before .before in
-    (w-size k, product k, c .before .cross .ensures, rw (back w64 (c .inner2 .ok)) (c .inner2 .ensures))
+    (w-size k, product k, c .before .cross .ensures, rw (back w64 (c .inner2 .ok)) (c .inner2 .ensures .1))
 
 larger-requires : tie.Need-larger-requires
 larger-requires c κs = search needs

@@ -97,7 +97,7 @@ module _ (c : tie.After-less) where
   long = rw (a-is parts, b-is parts) at (c .before .before .length .ensures)
 
 quotient-requires : tie.Need-quotient-requires
-quotient-requires c κs = (rw (e-is c) (e-size c), start (parts c) .pre .2, start (parts c) .pre .3)
+quotient-requires c κs = (rw (e-is c) (e-size c), start (parts c) .pre .2, omega (arith, start (parts c) .pre .3))
 
 returns-3 : tie.Need-returns-3
 returns-3 c =

@@ -1,4 +1,4 @@
-use mathlib.Core.Path.{_≡_, _∙_}
+use mathlib.Core.Path.{_≡_, refl, _∙_}
 use Prim.Native.Nat.{_^_, _≤_}
 use native.Mathlib.Omega.{arith}
 use lib.IntN.{natAbs, _+ℤ_, _*ℤ_}
@@ -41,7 +41,7 @@ add-result : tie.Need-add-result
 add-result c = rw (fst-is (c .before), snd-is c) (fits c)
 
 returns : tie.Need-returns
-returns c = rw (fst-is (c .before), snd-is c, toZ-ofZ (fits c)) (size c)
+returns c = rw (fst-is (c .before), snd-is c, toZ-ofZ (fits c)) (refl, size c)
 
 pub inner-spec : {M : Type 1} → statement M
 inner-spec =

@@ -29,14 +29,14 @@ module _ (c : tie.Start) where
   t-is : toZ w64 (ofZ w64 (c .args .t)) ≡ c .args .t
   t-is = toZ-ofZ (c .fits .t)
 
-  s-size : natAbs s ≤ 2 ^ 62 + 2 ^ 39
-  s-size = omega (arith, c .pre .0, size-+ (c .args .t) (pos 2147483648 *ℤ pos (c .args .q)), size-*≤ (pos 2147483648) (pos (c .args .q)) 2147483648 256 (omega arith) (c .pre .2))
+  s-size : natAbs s ≤ 2 ^ 62 + 2 ^ 51
+  s-size = omega (arith, c .pre .0, size-+ (c .args .t) (pos 2147483648 *ℤ pos (c .args .q)), size-*≤ (pos 2147483648) (pos (c .args .q)) 2147483648 1000000 (omega arith) (c .pre .2))
 
   s-fits : SFits w64 s
   s-fits = size→fits (omega (arith, s-size))
 
   product-fits : SFits w64 (pos 2147483648 *ℤ pos (c .args .q))
-  product-fits = size→fits (omega (arith, size-*≤ (pos 2147483648) (pos (c .args .q)) 2147483648 256 (omega arith) (c .pre .2)))
+  product-fits = size→fits (omega (arith, size-*≤ (pos 2147483648) (pos (c .args .q)) 2147483648 1000000 (omega arith) (c .pre .2)))
 
   s-is : toZ w64 (ofZ w64 (toZ w64 (ofZ w64 (c .args .t)) +ℤ toZ w64 (ofZ w64 (pos 2147483648 *ℤ toZ w64 (c .args .q))))) ≡ s
   s-is = rw (t-is, q-is, toZ-ofZ product-fits) (toZ-ofZ s-fits)
@@ -45,7 +45,7 @@ module _ (c : tie.Start) where
   abbrev d : ℕ
   d = ceilDiv (natAbs s) (c .args .q)
 
-  d-size : d ≤ 2 ^ 62 + 2 ^ 40
+  d-size : d ≤ 2 ^ 62 + 2 ^ 52
   d-size = omega (arith, s-size, c .pre .2, div-le-self (natAbs s + (c .args .q - 1)) (c .args .q))
 
   d-is : toZ w64 d ≡ pos d
