@@ -25,14 +25,14 @@ pub fn read(s: &[u8], at: usize, end: usize) -> Said {
     }
 }
 
-// The length that a row lends, up to 100: its number at a place.
+// The length that a row lends, its number at a place; 101 for any over 100, which is longer than what is lent here.
 pub fn lent(row: Row, at: usize) -> usize {
     if WIDTH <= at {
-        return 0;
+        return 101;
     }
     let z = integers::abs(row.numbers[at]);
     if 100 < z {
-        return 0;
+        return 101;
     }
     z as usize
 }
