@@ -1,86 +1,90 @@
 // Compares a table of another implementation (data/, one row a line) with what the library says of slices, as A and as B, and prints how many rows differ.
-ghost use Rattle.io.specs.Counts.{Counts};
-
-mod row;
-
-use libc::STDOUT_FILENO;
+// Rows `k | A or B | n zx zy w | a b c d | yes or no`.
+use arguments::Byte;
+use arguments::Four;
+use integers::Narrow;
+use integers::Short;
 use region::Job;
 use region::Rectangle;
 use region::Region;
-use row::Row;
-
-// How many rows there were, and how many of them differ.
-struct Tally {
-    rows: u64,
-    different: u64,
-}
+use region::Slice;
+use table_rows::Row;
+use table_rows::Tally;
 
 fn main() {
     let mut space = io::large_buffer();
-    let n = load(b"member.txt", &mut space);
-    report(compare(&space[..n]));
-}
-
-// The file's bytes at the start of space, and how many; none where it cannot be opened.
-fn load(name: &[u8], space: &mut [u8]) -> usize
-    ensures { λ r. ⌜ Counts r (now (space .exit)) ⌝ }
-{
-    let fd = os::open_read(name);
-    if fd < 0 {
-        os::fail(name);
-        return 0;
-    }
-    let n = io::read_full(fd, space);
-    libc::close(fd);
-    n
+    let n = table_rows::load(b"member.txt", &mut space);
+    compare(&space[..n]).print(b"members");
 }
 
 fn compare(s: &[u8]) -> Tally {
-    let mut t = Tally {
-        rows: 0,
-        different: 0,
-    };
+    let mut t = Tally::new();
     let mut at = 0;
     while at < s.len() {
-        let r = row::row_at(s, at);
-        t = with(t, right(r));
-        at = row::after(s, at, r.next);
+        let row = table_rows::row_at(s, at);
+        t = t.with(right(s, at, row));
+        at = table_rows::after(s, at, row.next);
     }
     t
 }
 
-// With one row more, which is right or not.
-fn with(t: Tally, right: bool) -> Tally {
-    Tally {
-        rows: std::num::wrapping_add_u64(t.rows, 1),
-        different: if right {
-            t.different
-        } else {
-            std::num::wrapping_add_u64(t.different, 1)
-        },
-    }
-}
-
 // Whether the job with the row's slice on its side says of the row's point what the row says.
-fn right(r: Row) -> bool {
-    job_of(r).solves(r.point()) == r.yes
+fn right(s: &[u8], at: usize, row: Row) -> bool {
+    let n = row.numbers;
+    let Byte::Fits(k) = arguments::byte_of(n[0]) else {
+        return false;
+    };
+    let Four::Point(v) = arguments::point_of(n[5], n[6], n[7], n[8]) else {
+        return false;
+    };
+    let Side::Slice(a) = slice_of(n[1], n[2], n[3], n[4]) else {
+        return false;
+    };
+    let j = job_of(k, a, table_rows::has(s, at, row.next, b'B'));
+    j.solves(v) == table_rows::has(s, at, row.next, b'y')
 }
 
-// The other side is a square that holds all points of the table and their conjugates.
-fn job_of(r: Row) -> Job {
-    let k = r.scale();
-    if r.second {
+// A slice, where its numbers fit.
+enum Side {
+    Slice(Slice),
+    TooWide,
+}
+
+fn slice_of(n: i64, zx: i64, zy: i64, w: i64) -> Side {
+    let Byte::Fits(n) = arguments::byte_of(n) else {
+        return Side::TooWide;
+    };
+    let Short::Fits(zx) = integers::to_i16(zx) else {
+        return Side::TooWide;
+    };
+    let Short::Fits(zy) = integers::to_i16(zy) else {
+        return Side::TooWide;
+    };
+    let Narrow::Fits(w) = integers::to_i32(w) else {
+        return Side::TooWide;
+    };
+    Side::Slice(Slice {
+        n: n as u16,
+        zx,
+        zy,
+        w,
+    })
+}
+
+// The slice as B or as A; the other side is a square that holds all points of the table and their conjugates.
+fn job_of(k: u8, s: Slice, second: bool) -> Job {
+    if second {
         return Job {
             k,
             all: true,
             a: square(),
-            b: Region::Slice(r.slice()),
+            b: Region::Slice(s),
         };
     }
     Job {
         k,
         all: true,
-        a: Region::Slice(r.slice()),
+        a: Region::Slice(s),
         b: square(),
     }
 }
@@ -93,12 +97,4 @@ fn square() -> Region {
         yl: -10000,
         yh: 10000,
     })
-}
-
-fn report(t: Tally) {
-    io::write_all(STDOUT_FILENO, b"members ");
-    io::print_decimal(STDOUT_FILENO, t.rows);
-    io::write_all(STDOUT_FILENO, b" rows, ");
-    io::print_decimal(STDOUT_FILENO, t.different);
-    io::write_all(STDOUT_FILENO, b" differ\n");
 }

@@ -51,9 +51,8 @@ pub two : (s : List ℕ) (k : ℕ) → unsignedAt 2 s k ≡ getD s k 0 + 256 * g
 unfolding unsignedAt
 two s k = omega arith
 
-pub four : (s : List ℕ) (k : ℕ) → unsignedAt 4 s k ≡ getD s k 0 + 256 * getD s (k + 1) 0 + 65536 * getD s (k + 2) 0 + 16777216 * getD s (k + 3) 0
+pub four : (s : List ℕ) (k : ℕ) → unsignedAt 4 s k ≡ unsignedAt 2 s k + 65536 * unsignedAt 2 s (k + 2)
 unfolding unsignedAt
 four s k =
     let e : k + 1 + 1 ≡ k + 2 = omega arith in
-    let f : k + 2 + 1 ≡ k + 3 = omega arith in
-    rw (e, f) (omega arith)
+    rw e (omega arith)

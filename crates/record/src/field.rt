@@ -21,7 +21,7 @@ pub(crate) fn u32_at(s: &[u8], k: usize) -> u32
     requires { ⌜ k + 4 ≤ length (now s) ⌝ }
     ensures { λ r. ⌜ r ≡ unsignedAt 4 (now (s .entry)) k ⌝ }
 {
-    wide(s[k]) + 256 * wide(s[k + 1]) + 65536 * wide(s[k + 2]) + 16777216 * wide(s[k + 3])
+    u16_at(s, k) as u32 + 65536 * (u16_at(s, k + 2) as u32)
 }
 
 // The signed number of 16 bits that has the bits u.

@@ -1,41 +1,43 @@
 // Compares two tables of another implementation (data/, one row a line) with the gate words of the library, and prints how many rows differ:
 // the 192 tails, and words of U and TUT† with the part that is handed back.
-ghost use Rattle.io.specs.Counts.{Counts};
-
 mod pairs;
-mod row;
+mod pieces;
 mod tails;
 
-use libc::STDOUT_FILENO;
-use row::Tally;
+use table_rows::Row;
+use table_rows::Tally;
+
+enum Table {
+    Tails,
+    Words,
+}
 
 fn main() {
+    compare_file(b"tails", b"tails.txt", Table::Tails);
+    compare_file(b"words", b"words.txt", Table::Words);
+}
+
+fn compare_file(name: &[u8], file: &[u8], table: Table) {
     let mut space = io::large_buffer();
-    let n = load(b"tails.txt", &mut space);
-    report(b"tails", tails::compare(&space[..n]));
-    let n = load(b"words.txt", &mut space);
-    report(b"words", pairs::compare(&space[..n]));
+    let n = table_rows::load(file, &mut space);
+    compare(&space[..n], table).print(name);
 }
 
-// The file's bytes at the start of space, and how many; none where it cannot be opened.
-fn load(name: &[u8], space: &mut [u8]) -> usize
-    ensures { λ r. ⌜ Counts r (now (space .exit)) ⌝ }
-{
-    let fd = os::open_read(name);
-    if fd < 0 {
-        os::fail(name);
-        return 0;
+fn compare(s: &[u8], table: Table) -> Tally {
+    let mut t = Tally::new();
+    let mut at = 0;
+    while at < s.len() {
+        let row = table_rows::row_at(s, at);
+        t = t.with(right(s, at, row, table));
+        at = table_rows::after(s, at, row.next);
     }
-    let n = io::read_full(fd, space);
-    libc::close(fd);
-    n
+    t
 }
 
-fn report(name: &[u8], t: Tally) {
-    io::write_all(STDOUT_FILENO, name);
-    io::write_all(STDOUT_FILENO, b": rows ");
-    io::print_decimal(STDOUT_FILENO, t.rows);
-    io::write_all(STDOUT_FILENO, b", different ");
-    io::print_decimal(STDOUT_FILENO, t.different);
-    io::write_all(STDOUT_FILENO, b"\n");
+// Whether the library answers what a row says.
+fn right(s: &[u8], at: usize, row: Row, table: Table) -> bool {
+    match table {
+        Table::Tails => tails::right(s, at, row),
+        Table::Words => pairs::right(s, at, row),
+    }
 }

@@ -1,44 +1,42 @@
 // Rows `TAIL | k a b c d`: a matrix of points over √2^k, and its tail.
-use crate::row;
-use crate::row::Row;
-use crate::row::Tally;
+use crate::pieces;
+use arguments::Four;
 use ring::Point;
 use spelling::State;
+use table_rows::Row;
 
-pub fn compare(s: &[u8]) -> Tally {
-    let mut t = Tally::new();
-    let mut at = 0;
-    while at < s.len() {
-        let r = row::row_at(s, at);
-        t = t.with(right(s, at, r));
-        at = row::after(s, at, r.next);
-    }
-    t
-}
-
-fn right(s: &[u8], at: usize, r: Row) -> bool {
+pub fn right(s: &[u8], at: usize, r: Row) -> bool {
     if r.count != 17 {
         return false;
     }
     let n = r.numbers;
-    let u = row::point(n[1], n[2], n[3], n[4]);
-    let b = row::point(n[5], n[6], n[7], n[8]);
-    let t = row::point(n[9], n[10], n[11], n[12]);
-    let d = row::point(n[13], n[14], n[15], n[16]);
+    let Four::Point(u) = arguments::point_of(n[1], n[2], n[3], n[4]) else {
+        return false;
+    };
+    let Four::Point(b) = arguments::point_of(n[5], n[6], n[7], n[8]) else {
+        return false;
+    };
+    let Four::Point(t) = arguments::point_of(n[9], n[10], n[11], n[12]) else {
+        return false;
+    };
+    let Four::Point(d) = arguments::point_of(n[13], n[14], n[15], n[16]) else {
+        return false;
+    };
+    let k = if n[0] == 0 { 0 } else { 1 };
     let l = phase(u, t, b, d);
-    let w = gates::tail_word(State {
-        k: row::size(n[0], 1) as u32,
-        u,
-        t,
-        l,
-    });
-    let a = w.letters;
+    l < 8 && is_tail(s, at, State { k, u, t, l })
+}
+
+// Whether the row begins with the tail of a state, and a bar.
+fn is_tail(s: &[u8], at: usize, x: State) -> bool {
+    let w = gates::tail_word(x);
+    let letters = w.letters;
     let len = w.len;
     if 128 < len {
         return false;
     }
-    let next = row::past_word(s, at, &a[..len]);
-    l < 8 && row::past(s, next, b" | ") < s.len()
+    let next = pieces::past_word(s, at, &letters[..len]);
+    pieces::past(s, next, b" | ") < s.len()
 }
 
 // The l with b = −ω^l t† and d = ω^l u†; 8 where there is none.

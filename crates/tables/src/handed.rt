@@ -1,35 +1,62 @@
 // What a row says of a hand-out: `refused 4`, or the count, yes or no for the end, and the numbers.
-use crate::row::Row;
-use crate::row::WIDTH;
 use integers::Narrow;
+use table_rows::Row;
+use table_rows::WIDTH;
 
+// The words of a row.
 pub struct Said {
-    pub refused: bool,
-    pub ended: bool,
+    refused: bool,
+    ended: bool,
+}
+
+// What a call answered: a refusal, or the count, whether it is the end, and how many numbers were handed out.
+pub enum Given {
+    Refused,
+    Handed(usize, bool, usize),
+    // The row's slice is longer than any that is lent.
+    NotCalled,
 }
 
 // What the bytes from at to end say.
 pub fn read(s: &[u8], at: usize, end: usize) -> Said {
     Said {
-        refused: has(s, at, end, b'r'),
-        ended: has(s, at, end, b'y'),
+        refused: table_rows::has(s, at, end, b'r'),
+        ended: table_rows::has(s, at, end, b'y'),
     }
 }
 
-// Whether a byte stands from at to end.
-fn has(s: &[u8], at: usize, end: usize, byte: u8) -> bool {
-    let mut i = at;
-    while i < end && i < s.len() {
-        if s[i] == byte {
-            return true;
-        }
-        i += 1;
+// The length that a row lends, its number at a place; 101 for any over 100, which is longer than what is lent here.
+pub fn lent(row: Row, at: usize) -> usize {
+    if WIDTH <= at {
+        return 101;
     }
-    false
+    let z = integers::abs(row.numbers[at]);
+    if 100 < z {
+        return 101;
+    }
+    z as usize
+}
+
+pub fn twice(n: usize) -> usize {
+    std::num::wrapping_add_usize(n, n)
+}
+
+// Whether an answer, with its numbers in `out`, is the row's, which begins after the number at `at`.
+pub fn is_answer(g: Given, out: &[i32], row: Row, said: Said, at: usize) -> bool {
+    if 9 < at {
+        return false;
+    }
+    match g {
+        Given::Refused => said.refused && row.numbers[at + 1] == 4,
+        Given::Handed(count, ended, n) => {
+            !said.refused && ended == said.ended && are(out, row, at + 1, count, n)
+        }
+        Given::NotCalled => false,
+    }
 }
 
 // Whether a count, and the n numbers handed out, are the row's last numbers, from a place on.
-pub fn are(out: &[i32], row: Row, from: usize, count: usize, n: usize) -> bool {
+fn are(out: &[i32], row: Row, from: usize, count: usize, n: usize) -> bool {
     if 10 < from {
         return false;
     }

@@ -1,78 +1,58 @@
 // Rows `nA lo hi nB lo hi | after | space | answer`: after is a pair or -, the space counts pairs, and the answer is `refused 4` or the count, yes or no for the end, and the pairs.
 use crate::handed;
+use crate::handed::Given;
 use crate::handed::Said;
-use crate::row::Row;
-use crate::row::Tally;
+use arguments::Ends;
 use integers::Narrow;
 use line::Answer;
 use line::Interval;
 use line::Place;
+use table_rows::Row;
 
-pub fn compare(s: &[u8]) -> Tally {
-    let mut t = Tally::new();
-    let mut at = 0;
-    while at < s.len() {
-        let mut space = [0i32; 200];
-        let row = crate::row::row_at(s, at);
-        let said = handed::read(s, at, row.next);
-        t = t.with(right(row, said, &mut space));
-        at = crate::row::after(s, at, row.next);
-    }
-    t
-}
-
-fn right(row: Row, said: Said, out: &mut [i32]) -> bool {
+pub fn right(row: Row, said: Said) -> bool {
     let n = row.numbers;
     if row.before[1] == 6 {
-        return answered(row, said, Place::Beginning, 6, out);
+        return answered(row, said, Place::Beginning, 6);
     }
-    if row.before[1] == 8 {
-        let after = Place::After(narrow(n[6]), narrow(n[7]));
-        return answered(row, said, after, 8, out);
-    }
-    false
-}
-
-// Whether the answer after a place is the row's; the space is the row's number at `from`.
-fn answered(row: Row, said: Said, place: Place, from: usize, out: &mut [i32]) -> bool {
-    if 8 < from {
+    if row.before[1] != 8 {
         return false;
     }
+    let Narrow::Fits(a) = integers::to_i32(n[6]) else {
+        return false;
+    };
+    let Narrow::Fits(b) = integers::to_i32(n[7]) else {
+        return false;
+    };
+    answered(row, said, Place::After(a, b), 8)
+}
+
+// Whether the answer after a place is the row's; the space is the row's number at `at`.
+fn answered(row: Row, said: Said, place: Place, at: usize) -> bool {
     let n = row.numbers;
-    let space = integers::abs(n[from]);
-    if 100 < space {
+    let Ends::Interval(first) = arguments::interval_of(n[0], n[1], n[2]) else {
         return false;
-    }
-    let wide = 2 * space as usize;
-    if out.len() < wide {
+    };
+    let Ends::Interval(second) = arguments::interval_of(n[3], n[4], n[5]) else {
         return false;
-    }
-    let first = interval(n[0], n[1], n[2]);
-    let second = interval(n[3], n[4], n[5]);
-    match line::pairs(first, second, place, &mut out[..wide]) {
-        Answer::Refused => said.refused && n[from + 1] == 4,
-        Answer::Handed(count, ended) => {
-            if 100 < count {
-                return false;
-            }
-            let n = 2 * count;
-            !said.refused && ended == said.ended && handed::are(out, row, from + 1, count, n)
-        }
-    }
+    };
+    let mut out = [0i32; 200];
+    let g = given(
+        first,
+        second,
+        place,
+        &mut out,
+        handed::twice(handed::lent(row, at)),
+    );
+    handed::is_answer(g, &out, row, said, at)
 }
 
-fn interval(n: i64, lo: i64, hi: i64) -> Interval {
-    Interval {
-        n: narrow(n),
-        lo: narrow(lo),
-        hi: narrow(hi),
+fn given(first: Interval, second: Interval, place: Place, out: &mut [i32], n: usize) -> Given {
+    if out.len() < n {
+        return Given::NotCalled;
     }
-}
-
-// A number of a row; those of the table fit.
-fn narrow(n: i64) -> i32 {
-    match integers::to_i32(n) {
-        Narrow::Fits(z) => z,
-        Narrow::TooWide => 0,
+    let a = line::pairs(first, second, place, &mut out[..n]);
+    match a {
+        Answer::Handed(count, ended) => Given::Handed(count, ended, handed::twice(count)),
+        Answer::Refused => Given::Refused,
     }
 }

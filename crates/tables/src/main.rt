@@ -1,35 +1,64 @@
 // Compares tables of another implementation (data/, one row a line) with what the library answers, and prints how many rows differ; then numbers of two words about 2^64 and 2^128.
-ghost use Rattle.io.specs.Counts.{Counts};
-
 mod entries;
 mod exponent;
 mod handed;
 mod lines;
 mod operators;
-mod row;
 mod sign;
 
 use libc::STDOUT_FILENO;
-use row::Tally;
+use table_rows::Row;
+use table_rows::Tally;
 use words::Size;
 
+enum Table {
+    Signs,
+    Exponents,
+    Checks,
+    Images,
+    Lines,
+    Entries,
+}
+
 fn main() {
-    let mut space = io::large_buffer();
-    let n = load(b"sign.txt", &mut space);
-    report(b"sign", sign::compare(&space[..n]));
-    let n = load(b"exponent.txt", &mut space);
-    report(b"exponent", exponent::compare(&space[..n]));
-    let n = load(b"op.txt", &mut space);
-    report(b"op", operators::compare_checks(&space[..n]));
-    let n = load(b"apply.txt", &mut space);
-    report(b"apply", operators::compare_images(&space[..n]));
-    let n = load(b"line.txt", &mut space);
-    report(b"line", lines::compare(&space[..n]));
-    let n = load(b"entry.txt", &mut space);
-    report(b"entry", entries::compare(&space[..n]));
+    compare_file(b"sign", b"sign.txt", Table::Signs);
+    compare_file(b"exponent", b"exponent.txt", Table::Exponents);
+    compare_file(b"op", b"op.txt", Table::Checks);
+    compare_file(b"apply", b"apply.txt", Table::Images);
+    compare_file(b"line", b"line.txt", Table::Lines);
+    compare_file(b"entry", b"entry.txt", Table::Entries);
     print_wide(0, 18446744073709551615);
     print_wide(1, 0);
     print_wide(18446744073709551615, 18446744073709551615);
+}
+
+fn compare_file(name: &[u8], file: &[u8], table: Table) {
+    let mut space = io::large_buffer();
+    let n = table_rows::load(file, &mut space);
+    compare(&space[..n], table).print(name);
+}
+
+fn compare(s: &[u8], table: Table) -> Tally {
+    let mut t = Tally::new();
+    let mut at = 0;
+    while at < s.len() {
+        let row = table_rows::row_at(s, at);
+        t = t.with(right(s, at, row, table));
+        at = table_rows::after(s, at, row.next);
+    }
+    t
+}
+
+// Whether the library answers what a row says.
+fn right(s: &[u8], at: usize, row: Row, table: Table) -> bool {
+    match table {
+        Table::Signs => sign::right(row),
+        Table::Exponents => exponent::right(row),
+        Table::Checks => operators::check_right(row),
+        Table::Images => operators::image_right(row),
+        Table::Lines => lines::right(row, handed::read(s, at, row.next)),
+        Table::Entries => entries::right(row, handed::read(s, at, row.next)),
+    }
 }
 
 // A number of two words in decimal, on a line.
@@ -37,28 +66,5 @@ fn print_wide(hi: u64, lo: u64) {
     let mut line = io::buffer();
     let n = text::put_wide(&mut line, 0, Size { hi, lo });
     io::write_all(STDOUT_FILENO, &line[..n]);
-    io::write_all(STDOUT_FILENO, b"\n");
-}
-
-// The file's bytes at the start of space, and how many; none where it cannot be opened.
-fn load(name: &[u8], space: &mut [u8]) -> usize
-    ensures { λ r. ⌜ Counts r (now (space .exit)) ⌝ }
-{
-    let fd = os::open_read(name);
-    if fd < 0 {
-        os::fail(name);
-        return 0;
-    }
-    let n = io::read_full(fd, space);
-    libc::close(fd);
-    n
-}
-
-fn report(name: &[u8], t: Tally) {
-    io::write_all(STDOUT_FILENO, name);
-    io::write_all(STDOUT_FILENO, b": rows ");
-    io::print_decimal(STDOUT_FILENO, t.rows);
-    io::write_all(STDOUT_FILENO, b", different ");
-    io::print_decimal(STDOUT_FILENO, t.different);
     io::write_all(STDOUT_FILENO, b"\n");
 }

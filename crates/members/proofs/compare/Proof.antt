@@ -10,6 +10,9 @@ Inv-loop s t₀ at₀ t at = Unit {0}
 abbrev μ-loop : tie.MeasureT-loop
 μ-loop s t₀ at₀ t at = length s - at
 
+new-requires : tie.Need-new-requires Inv-loop μ-loop
+new-requires c κs = search needs
+
 loop-holds : tie.Need-loop-holds Inv-loop μ-loop
 loop-holds c = search needs
 
@@ -40,6 +43,7 @@ compare-spec =
     (tie.spec
     Inv-loop
     μ-loop
+    new-requires
     loop-holds
     row-at-requires
     right-requires

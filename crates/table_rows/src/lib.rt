@@ -1,25 +1,25 @@
-// Rows of whole numbers.
+// Tables of text, one row a line: reading them, the numbers of a row, and how many rows differ.
 ghost use Prim.Native.Nat.{_<_};
 ghost use lib.ListN.{length};
-use integers::Narrow;
-use ring::Point;
+ghost use Rattle.io.specs.Counts.{Counts};
+use libc::STDOUT_FILENO;
 use scan::Number;
 
-// How many numbers of a line are kept.
+// How many numbers of a row are kept.
 pub const WIDTH: usize = 144;
 
-// How many rows there were, and how many of them differ.
-pub struct Tally {
-    pub rows: u64,
-    pub different: u64,
-}
-
-// The first numbers of a line, how many there are, how many of them stood before each of the first four bars, and the place after the line.
+// The first numbers of a row, how many there are, how many of them stood before each of the first four bars, and where the row ends.
 pub struct Row {
     pub numbers: [i64; WIDTH],
     pub count: usize,
     pub before: [usize; 4],
     pub next: usize,
+}
+
+// How many rows there were, and how many of them differ.
+pub struct Tally {
+    pub rows: u64,
+    pub different: u64,
 }
 
 impl Tally {
@@ -41,9 +41,33 @@ impl Tally {
             },
         }
     }
+
+    // A line with both numbers, on standard output.
+    pub fn print(self, name: &[u8]) {
+        io::write_all(STDOUT_FILENO, name);
+        io::write_all(STDOUT_FILENO, b": rows ");
+        io::print_decimal(STDOUT_FILENO, self.rows);
+        io::write_all(STDOUT_FILENO, b", different ");
+        io::print_decimal(STDOUT_FILENO, self.different);
+        io::write_all(STDOUT_FILENO, b"\n");
+    }
 }
 
-// The numbers of the line at `at`, whatever stands between them.
+// The file's bytes at the start of space, and how many; none where it cannot be opened.
+pub fn load(name: &[u8], space: &mut [u8]) -> usize
+    ensures { λ r. ⌜ Counts r (now (space .exit)) ⌝ }
+{
+    let fd = os::open_read(name);
+    if fd < 0 {
+        os::fail(name);
+        return 0;
+    }
+    let n = io::read_full(fd, space);
+    libc::close(fd);
+    n
+}
+
+// The numbers of the row at `at`, whatever stands between them.
 pub fn row_at(s: &[u8], at: usize) -> Row {
     let end = scan::line_end(s, at);
     let mut numbers = [0i64; WIDTH];
@@ -79,7 +103,7 @@ pub fn row_at(s: &[u8], at: usize) -> Row {
     }
 }
 
-// Where the line after the one from at to end begins: past at, and at most the length.
+// Where the row after the one from at to end begins: past at, and at most the length.
 pub fn after(s: &[u8], at: usize, end: usize) -> usize
     requires { ⌜ at < length (now s) ⌝ }
     ensures { λ r. ⌜ at < r ⌝ }
@@ -92,24 +116,14 @@ pub fn after(s: &[u8], at: usize, end: usize) -> usize
     s.len()
 }
 
-// Four numbers of a row as a point, where they fit.
-pub enum Four {
-    Point(Point),
-    TooWide,
-}
-
-pub fn point_of(a: i64, b: i64, c: i64, d: i64) -> Four {
-    let Narrow::Fits(a) = integers::to_i32(a) else {
-        return Four::TooWide;
-    };
-    let Narrow::Fits(b) = integers::to_i32(b) else {
-        return Four::TooWide;
-    };
-    let Narrow::Fits(c) = integers::to_i32(c) else {
-        return Four::TooWide;
-    };
-    let Narrow::Fits(d) = integers::to_i32(d) else {
-        return Four::TooWide;
-    };
-    Four::Point(Point { a, b, c, d })
+// Whether a byte stands from at to end.
+pub fn has(s: &[u8], at: usize, end: usize, byte: u8) -> bool {
+    let mut i = at;
+    while i < end && i < s.len() {
+        if s[i] == byte {
+            return true;
+        }
+        i += 1;
+    }
+    false
 }

@@ -1,7 +1,7 @@
 use Prim.Native.Nat.{_-_}
 use borrow.Author.Needs.{needs}
-use Rattle.tables.proofs.handed.has.Statement.{statement}
-use Rattle.tables.proofs.handed.has.Tie as tie
+use Rattle.table_rows.proofs.has.Statement.{statement}
+use Rattle.table_rows.proofs.has.Tie as tie
 
 abbrev Inv-loop : tie.InvT-loop
 Inv-loop s at end byte i₀ i = Unit {0}

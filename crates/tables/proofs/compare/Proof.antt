@@ -1,14 +1,14 @@
 use Prim.Native.Nat.{_-_}
 use lib.ListN.{length}
 use borrow.Author.Needs.{needs}
-use Rattle.tables.proofs.operators.compare_checks.Statement.{statement}
-use Rattle.tables.proofs.operators.compare_checks.Tie as tie
+use Rattle.tables.proofs.compare.Statement.{statement}
+use Rattle.tables.proofs.compare.Tie as tie
 
 abbrev Inv-loop : tie.InvT-loop
-Inv-loop s t₀ at₀ t at = Unit {0}
+Inv-loop s table t₀ at₀ t at = Unit {0}
 
 abbrev μ-loop : tie.MeasureT-loop
-μ-loop s t₀ at₀ t at = length s - at
+μ-loop s table t₀ at₀ t at = length s - at
 
 new-requires : tie.Need-new-requires Inv-loop μ-loop
 new-requires c κs = search needs
@@ -19,8 +19,8 @@ loop-holds c = search needs
 row-at-requires : tie.Need-row-at-requires Inv-loop μ-loop
 row-at-requires c κs = search needs
 
-check-right-requires : tie.Need-check-right-requires Inv-loop μ-loop
-check-right-requires c κs = search needs
+right-requires : tie.Need-right-requires Inv-loop μ-loop
+right-requires c κs = search needs
 
 with-requires : tie.Need-with-requires Inv-loop μ-loop
 with-requires c κs = search needs
@@ -37,8 +37,8 @@ loop-again c = search needs
 returns : tie.Need-returns Inv-loop μ-loop
 returns c = search needs
 
-pub compare-checks-spec : {M : Type 1} → statement M
-compare-checks-spec =
+pub compare-spec : {M : Type 1} → statement M
+compare-spec =
     tie.close
     (tie.spec
     Inv-loop
@@ -46,7 +46,7 @@ compare-checks-spec =
     new-requires
     loop-holds
     row-at-requires
-    check-right-requires
+    right-requires
     with-requires
     after-requires
     loop-less

@@ -1,14 +1,14 @@
 use Prim.Native.Nat.{_-_}
 use lib.ListN.{length}
 use borrow.Author.Needs.{needs}
-use Rattle.tables.proofs.exponent.compare.Statement.{statement}
-use Rattle.tables.proofs.exponent.compare.Tie as tie
+use Rattle.spelled.proofs.compare.Statement.{statement}
+use Rattle.spelled.proofs.compare.Tie as tie
 
 abbrev Inv-loop : tie.InvT-loop
-Inv-loop s t₀ at₀ t at = Unit {0}
+Inv-loop s table t₀ at₀ t at = Unit {0}
 
 abbrev μ-loop : tie.MeasureT-loop
-μ-loop s t₀ at₀ t at = length s - at
+μ-loop s table t₀ at₀ t at = length s - at
 
 new-requires : tie.Need-new-requires Inv-loop μ-loop
 new-requires c κs = search needs

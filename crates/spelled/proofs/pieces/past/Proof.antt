@@ -1,8 +1,8 @@
 use Prim.Native.Nat.{_-_}
 use lib.ListN.{length}
 use borrow.Author.Needs.{needs}
-use Rattle.spelled.proofs.row.past.Statement.{statement}
-use Rattle.spelled.proofs.row.past.Tie as tie
+use Rattle.spelled.proofs.pieces.past.Statement.{statement}
+use Rattle.spelled.proofs.pieces.past.Tie as tie
 
 abbrev Inv-loop : tie.InvT-loop
 Inv-loop s at piece i₀ i = Unit {0}

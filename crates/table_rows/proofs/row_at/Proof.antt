@@ -1,7 +1,7 @@
 use Prim.Native.Nat.{_-_}
 use borrow.Author.Needs.{needs}
-use Rattle.tables.proofs.row.row_at.Statement.{statement}
-use Rattle.tables.proofs.row.row_at.Tie as tie
+use Rattle.table_rows.proofs.row_at.Statement.{statement}
+use Rattle.table_rows.proofs.row_at.Tie as tie
 
 abbrev Inv-loop : tie.InvT-loop
 Inv-loop s at end numbers₀ count₀ before₀ bars₀ i₀ numbers count before bars i = Unit {0}
