@@ -80,9 +80,9 @@ over-point s u v h o l w X Y hw t =
     let S = c ⊠ (n ⊠ X) ⊟ N ⊠ a ⊠ w in
     let T = c ⊠ (n ⊠ Y) ⊟ N ⊠ b ⊠ w in
     let none = nn-by (squares c N a b w (n ⊠ X) (n ⊠ Y))
-        (nn-+ (nn-+ (nn-* (O.nn-sq c) near) (nn-* (nn-* (nn-* hc hN) (nn-* (nn-num {k = pos 2} (record { le = tt })) hw)) (m .beyond))) (nn-* (nn-* hN (O.nn-sq w)) long)) in
+    (nn-+ (nn-+ (nn-* (O.nn-sq c) near) (nn-* (nn-* (nn-* hc hN) (nn-* (nn-num {k = pos 2} (record { le = tt })) hw)) (m .beyond))) (nn-* (nn-* hN (O.nn-sq w)) long)) in
     let zero = sq-⊑ (num u ⊠ S ⊞ num v ⊠ T) (num (pos 0)) (nn-num {k = pos 0} (record { le = tt }))
-        (nn-by (cauchy (num u) (num v) S T) (nn-+ (nn-* (nn-+ (O.nn-sq (num u)) (O.nn-sq (num v))) none) (O.nn-sq (num u ⊠ T ⊟ num v ⊠ S)))) in
+    (nn-by (cauchy (num u) (num v) S T) (nn-+ (nn-* (nn-+ (O.nn-sq (num u)) (O.nn-sq (num v))) none) (O.nn-sq (num u ⊠ T ⊟ num v ⊠ S)))) in
     nn-cancel c _ (num-⊑ (o .positive)) (nn-by (rest c N a b (num u) (num v) (num h) w (n ⊠ X) (n ⊠ Y)) (nn-+ (nn-* far hw) zero))
   where
     round : (N w x y : RootTwo)
