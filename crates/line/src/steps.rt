@@ -8,10 +8,11 @@ ghost use Rattle.ring.specs.RootTwo.Order.{nonneg};
 ghost use Rattle.line.specs.Steps.{shiftOf, timesOf, Even};
 ghost use Rattle.line.specs.Narrow.{endOf};
 ghost use Rattle.line.specs.Sized.{Sized, Ends, whole, shifted, scaled, unitSize};
-use crate::exact::combined;
-use crate::exact::product;
 use crate::row;
 use ring::RootTwo;
+use ring::exact::combined;
+use ring::exact::is_nonneg;
+use ring::exact::product;
 use row::Strip;
 
 // Step 2: I − α₀, or J − α₀•.
@@ -94,10 +95,4 @@ pub(crate) fn is_within(s: Strip, k: i64) -> bool
     let d = combined(-1, s.hi, 1, s.lo);
     let e = combined(k, RootTwo { p: s.m, q: 0 }, 1, d);
     is_nonneg(e)
-}
-
-fn is_nonneg(x: RootTwo) -> bool
-    ensures { λ r. ⌜ r ≡ nonneg x ⌝ }
-{
-    row::nonneg(x.p, x.q)
 }
