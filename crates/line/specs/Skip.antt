@@ -1,13 +1,14 @@
 -- The rows that the walk through the scaled pairs passes over have no pair: what the walk asks for holds, and what it finds is said of the problem itself.
-use mathlib.Core.Path.{_≡_, refl, sym, _∙_, ap, ap₂, subst, subst₂}
+use mathlib.Core.Path.{_≡_, refl, sym, _∙_, ap, subst, subst₂}
 use mathlib.Core.Bool.{Bool, true, false, false≢true}
-use Prim.Native.Nat.{ℕ, _+_, _*_, _^_, _≤_, _<_}
+use Prim.Native.Nat.{ℕ, _*_, _^_, _≤_}
 use native.Mathlib.Omega.{arith}
 use lib.IntN.{ℤ, pos, negℤ, natAbs, _-ℤ_, _*ℤ_}
 use Rattle.integers.specs.Difference.{by⊖, zz, _≼_, _≺_}
 use Rattle.integers.specs.Size.{size--, size-*≤}
 use Rattle.ring.specs.declared.RootTwo.{RootTwo}
 use Rattle.ring.specs.RootTwo.{conj, conj-parts}
+use Rattle.ring.specs.RootTwo.Sized.{conj-size, less-size, product-size}
 use Rattle.line.specs.declared.Interval.{Interval}
 use Rattle.line.specs.declared.row.Strip.{Strip}
 use Rattle.line.specs.Line.{both, bound, span, coordinate, accepted, inRange, solves, holds}
@@ -17,9 +18,9 @@ use Rattle.line.specs.Strips.{stripOf, solves-row, Ranged, both-ranged, 
 use Rattle.line.specs.Ends.{lo-divided, hi-divided}
 use Rattle.line.specs.Bounds.{solution-within, solution-row, lastRow}
 use Rattle.line.specs.Full.{digit, coordinate-≺}
-use Rattle.line.specs.Steps.{solved, shiftOf, timesOf, Even}
+use Rattle.line.specs.Steps.{solved, shiftOf, Even}
 use Rattle.line.specs.Narrow.{Wide, NotBefore, image, origin, firstOf, secondOf, rowsOf, steps-hold, image-origin, origin-image, rises, row-from, row-to}
-use Rattle.line.specs.Sized.{Sized, Ends, whole, shifted, scaled, rowEnd, unitSize, conj-size, less-size, product-size, shift-ends, times-ends, end-size, coordinate-size}
+use Rattle.line.specs.Sized.{Sized, Ends, whole, shifted, scaled, rowEnd, unitSize, shift-ends, times-ends, end-size, coordinate-size}
 use Rattle.line.specs.Walk.{Ready, Passed, Skips, solved-row}
 
 -- a pair solves the problem of intervals if and only if it solves that of their strips

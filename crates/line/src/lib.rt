@@ -9,7 +9,6 @@ ghost use Rattle.line.specs.Start.{rankOf};
 ghost use Rattle.line.specs.Next.{Near, Inside};
 ghost use Rattle.line.specs.Given.{Given};
 
-mod exact;
 mod narrow;
 pub mod row;
 mod search;

@@ -12,13 +12,13 @@ ghost use Rattle.line.specs.Narrow.{rowsIn, origin};
 ghost use Rattle.line.specs.Sized.{Sized, Ends, whole, shifted, scaled, rowEnd, unitSize};
 ghost use Rattle.line.specs.Walk.{First, InRow, Ready, Passed, Skips, pairAt, top};
 use crate::Interval;
-use crate::exact::combined;
-use crate::exact::conjugate;
-use crate::exact::product;
 use crate::row;
 use crate::search;
 use crate::steps;
 use ring::RootTwo;
+use ring::exact::combined;
+use ring::exact::conjugate;
+use ring::exact::product;
 use row::Strip;
 
 // The digit of 0 in the scaled problem, and the number of digits.

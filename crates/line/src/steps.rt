@@ -1,18 +1,18 @@
 // The steps of Algorithm 2.2 (the Note) that come before a and b: the shift by α₀, then the scaling by a power of λ = 1 + √2.
 // `shift-holds` and `scale-holds` say that each keeps the pairs, for every α₀ and every power, so what is chosen here is a matter of speed alone.
 ghost use mathlib.Core.Path.{_≡_};
-ghost use Prim.Native.Nat.{_^_, _≤_};
+ghost use Prim.Native.Nat.{_≤_};
 ghost use lib.IntN.{natAbs};
 ghost use Rattle.ring.specs.RootTwo.{_⊟_, _⊠_, num};
 ghost use Rattle.ring.specs.RootTwo.Order.{nonneg};
 ghost use Rattle.line.specs.Steps.{shiftOf, timesOf, Even};
 ghost use Rattle.line.specs.Narrow.{endOf};
 ghost use Rattle.line.specs.Sized.{Sized, Ends, whole, shifted, scaled, unitSize};
-use crate::exact::combined;
-use crate::exact::product;
-use crate::row;
+use crate::row::Strip;
 use ring::RootTwo;
-use row::Strip;
+use ring::exact::combined;
+use ring::exact::is_nonneg;
+use ring::exact::product;
 
 // Step 2: I − α₀, or J − α₀•.
 pub(crate) fn shift(s: Strip, w: RootTwo) -> Strip
@@ -94,10 +94,4 @@ pub(crate) fn is_within(s: Strip, k: i64) -> bool
     let d = combined(-1, s.hi, 1, s.lo);
     let e = combined(k, RootTwo { p: s.m, q: 0 }, 1, d);
     is_nonneg(e)
-}
-
-fn is_nonneg(x: RootTwo) -> bool
-    ensures { λ r. ⌜ r ≡ nonneg x ⌝ }
-{
-    row::nonneg(x.p, x.q)
 }

@@ -5,7 +5,6 @@ pub mod Nest
 pub mod Reach
 pub mod Rows
 pub mod Search
-pub mod Sizes
 pub mod Slice
 pub mod Strips
 pub mod Units

@@ -7,43 +7,26 @@ use Prim.Native.Nat.{ℕ, zero, suc, _+_, _*_, _/_, _%_, _^_, _≤_}
 use native.Mathlib.Nat.{eq-zero-or-pos}
 use native.Mathlib.Omega.{arith}
 use lib.Dec.{le→leb}
-use lib.IntN.{ℤ, pos, natAbs, _*ℤ_}
+use lib.IntN.{pos, natAbs}
 use lib.Pow.{pow-mono}
 use Rattle.integers.specs.Difference.{_≼_}
 use Rattle.integers.specs.Ring.{poly, by-ring}
-use Rattle.integers.specs.Size.{size-+, size-*≤}
 use Rattle.ring.specs.declared.Point.{Point}
 use Rattle.ring.specs.declared.RootTwo.{RootTwo}
-use Rattle.ring.specs.RootTwo.{_⊞_, _⊟_, _⊠_, neg, conj, num, √2, ring√, product-parts, conj-⊞, conj-⊠, conj-√2}
+use Rattle.ring.specs.RootTwo.{_⊞_, _⊟_, _⊠_, neg, conj, num, √2, ring√, conj-⊞, conj-⊠, conj-√2}
 use Rattle.ring.specs.RootTwo.Order.{Nn, nn-by, nn-cancel, one⊑√2}
-use Rattle.ring.specs.RootTwo.Power.{√2^, √2^-suc, √2^-nn, turn, turn-zero, turn-suc, turn-two}
+use Rattle.ring.specs.RootTwo.Power.{√2^, √2^-suc, √2^-nn, power-even, power-odd, turn, turn-zero, turn-suc, turn-two}
 use Rattle.ring.specs.Point.{√2x, √2y, conjω, √2x-conj, √2y-conj}
+use Rattle.ring.specs.RootTwo.Sized.{Sized, product-sizes, product-sized, neg-size}
 use Rattle.region.specs.declared.Region.{Region}
 use Rattle.region.specs.declared.Job.{Job}
 use Rattle.region.specs.Region.{topScale, holds, solves}
 use Rattle.region.specs.Membership.{solves-true}
 use Rattle.region.specs.Over.{scale}
-use Rattle.region.specs.Sizes.{Sized}
-use Rattle.region.specs.Weight.{√2^-parts, even-power, weight-even}
 use Rattle.line.specs.declared.row.Strip.{Strip}
 use Rattle.line.specs.Row.{above, below}
 use Rattle.question.specs.declared.strips.Strips.{Strips}
-use Rattle.question.specs.Sizes.{neg-size}
 use Rattle.question.specs.Reach.{reachSize, Reaches}
-
--- ---- √2^k by its parts
-pub power-even : (k : ℕ) → k % 2 ≡ 0 → √2^ k ≡ record { p = pos (2 ^ (k / 2)); q = pos 0 }
-power-even k e = √2^-parts k ∙ even-power k (k / 2) (omega arith)
-
-pub power-odd : (k : ℕ) → k % 2 ≡ 1 → √2^ k ≡ record { p = pos 0; q = pos (2 ^ (k / 2)) }
-power-odd zero e = absurd (omega arith)
-power-odd (suc k) e = let h : k / 2 ≡ suc k / 2 = omega arith in weight-even k (omega arith) ∙ ap (λ (n : ℕ). record { p = pos 0; q = pos (2 ^ n) }) h
-
-pub power-sized : (k : ℕ) → k ≤ topScale → Sized 1024 1024 (√2^ k)
-power-sized k h = elim (eq-zero-or-pos (k % 2)) [
-  | inl e ↦ rw (power-even k e) (record { p = pow-mono {i = k / 2} {j = 10} (omega arith); q = omega arith })
-  | inr l ↦ rw (power-odd k (omega arith)) (record { p = omega arith; q = pow-mono {i = k / 2} {j = 10} (omega arith) })
-]
 
 -- ---- sizes of a strip's numbers
 abbrev pub endSize : ℕ
@@ -56,25 +39,13 @@ pub record Ends (s : Strip) : Type 0 where
   pub hi : Sized endSize endSize (s .hi)
 
 pub power-size : (k : ℕ) (x : RootTwo) (a : ℕ) → k ≤ topScale → Sized a a x → Sized (a * 1024) (a * 1024) (x ⊠ √2^ k)
-power-size k x a h s = elim (eq-zero-or-pos (k % 2)) [ inl e ↦ even e | inr l ↦ odd (omega arith) ]
+power-size k x a h s = elim (eq-zero-or-pos (k % 2)) [
+  | inl e ↦ rw (power-even k e) (by 1024 0 _ (record { p = pow-mono {i = k / 2} {j = 10} (omega arith); q = omega arith }) (omega arith))
+  | inr l ↦ rw (power-odd k (omega arith)) (by 0 512 _ (record { p = omega arith; q = pow-mono {i = k / 2} {j = 9} (omega arith) }) (omega arith))
+]
   where
-    even : k % 2 ≡ 0 → Sized (a * 1024) (a * 1024) (x ⊠ √2^ k)
-    even e =
-        let t = pos (2 ^ (k / 2)) in
-        let l : 2 ^ (k / 2) ≤ 1024 = pow-mono {i = k / 2} {j = 10} (omega arith) in
-        rw (power-even k e, product-parts) (record {
-          p = omega (arith, size-+ (x .p *ℤ t) (pos 2 *ℤ (x .q *ℤ pos 0)), size-*≤ (x .p) t a 1024 (s .p) l, size-*≤ (pos 2) (x .q *ℤ pos 0) 2 (a * 0) (omega arith) (size-*≤ (x .q) (pos 0) a 0 (s .q) (omega arith)));
-          q = omega (arith, size-+ (x .p *ℤ pos 0) (x .q *ℤ t), size-*≤ (x .p) (pos 0) a 0 (s .p) (omega arith), size-*≤ (x .q) t a 1024 (s .q) l);
-        })
-
-    odd : k % 2 ≡ 1 → Sized (a * 1024) (a * 1024) (x ⊠ √2^ k)
-    odd e =
-        let t = pos (2 ^ (k / 2)) in
-        let l : 2 ^ (k / 2) ≤ 512 = pow-mono {i = k / 2} {j = 9} (omega arith) in
-        rw (power-odd k e, product-parts) (record {
-          p = omega (arith, size-+ (x .p *ℤ pos 0) (pos 2 *ℤ (x .q *ℤ t)), size-*≤ (x .p) (pos 0) a 0 (s .p) (omega arith), size-*≤ (pos 2) (x .q *ℤ t) 2 (a * 512) (omega arith) (size-*≤ (x .q) t a 512 (s .q) l));
-          q = omega (arith, size-+ (x .p *ℤ t) (x .q *ℤ pos 0), size-*≤ (x .p) t a 512 (s .p) l, size-*≤ (x .q) (pos 0) a 0 (s .q) (omega arith));
-        })
+    by : (m n : ℕ) (y : RootTwo) → Sized m n y → a * m + 2 * (a * n) ≤ a * 1024 → Sized (a * 1024) (a * 1024) (x ⊠ y)
+    by m n y w l = product-sized (a * 1024) x y (product-sizes (a * 1024) x y a a m n s w l (omega arith))
 
 -- ---- one region
 pub record Strip-of (r : Region) (k : ℕ) (u v : RootTwo) (s : Strip) : Type 0 where

@@ -8,7 +8,6 @@ ghost use Rattle.operator.specs.declared.Check.the-variants.{Special};
 ghost use Rattle.operator.specs.Operator.{checkOf};
 ghost use Rattle.question.specs.Image.{Undoing};
 
-mod exact;
 mod generators;
 mod image;
 mod lines;

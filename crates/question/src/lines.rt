@@ -4,19 +4,20 @@ ghost use Prim.Native.Nat.{_^_, _≤_};
 ghost use mathlib.Core.Bool.{false};
 ghost use Rattle.ring.specs.RootTwo.{_⊟_, _⊠_};
 ghost use Rattle.ring.specs.RootTwo.Order.{nonneg};
-ghost use Rattle.region.specs.Sizes.{Sized};
+ghost use Rattle.ring.specs.RootTwo.Sized.{Sized};
 ghost use Rattle.line.specs.Row.{coordinate, lower, upper, Small, Least};
 ghost use Rattle.question.specs.Strips.{Ends};
 ghost use Rattle.question.specs.Rows.{middle, top, pairAt, joinedOf, First};
 ghost use Rattle.question.specs.Lines.{Searchable, Pairless, rowless, Line-with, Line-of};
-use crate::exact::combined;
-use crate::exact::conjugate;
-use crate::exact::product;
 use crate::strips::Strips;
 use crate::units;
 use line::row;
 use line::row::Strip;
 use ring::RootTwo;
+use ring::exact::combined;
+use ring::exact::conjugate;
+use ring::exact::is_nonneg;
+use ring::exact::product;
 
 // The digit of 0, and the number of digits.
 pub(crate) const HALF: u64 = 549755813888;
@@ -67,7 +68,7 @@ fn is_proper(s: Strip) -> bool
     ensures { λ r. ⌜ r ≡ nonneg (s .hi ⊟ s .lo) ⌝ }
 {
     let d = combined(1, s.hi, -1, s.lo);
-    row::nonneg(d.p, d.q)
+    is_nonneg(d)
 }
 
 // The line without rows.

@@ -5,18 +5,18 @@ ghost use Prim.Native.Nat.{_+_, _*_, _≤_, _^_};
 ghost use lib.IntN.{pos, natAbs};
 ghost use Rattle.ring.specs.RootTwo.{num};
 ghost use Rattle.ring.specs.RootTwo.Order.{nonneg, _⊑_};
+ghost use Rattle.ring.specs.RootTwo.Sized.{Sized};
 ghost use Rattle.region.specs.Region.{accepted};
-ghost use Rattle.region.specs.Sizes.{Sized};
 ghost use Rattle.region.specs.declared.Region.the-variants as R;
 ghost use Rattle.question.specs.Reach.{Direction, farEnd, widthOf, Half-width, Reaches};
-use crate::exact::combined;
-use crate::exact::product;
 use crate::slice;
 use line::row::nonneg;
 use region::Ellipse;
 use region::Rectangle;
 use region::Region;
 use ring::RootTwo;
+use ring::exact::combined;
+use ring::exact::product;
 
 // The end of lo..hi at which u·z is greatest.
 fn far_end(u: RootTwo, lo: i32, hi: i32) -> i64

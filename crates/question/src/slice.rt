@@ -4,16 +4,13 @@ ghost use mathlib.Core.Path.{_≡_};
 ghost use mathlib.Core.Bool.{true};
 ghost use Prim.Native.Nat.{_^_, _≤_};
 ghost use lib.IntN.{pos, natAbs, _+ℤ_, _*ℤ_};
+ghost use Rattle.ring.specs.RootTwo.Sized.{Sized};
 ghost use Rattle.region.specs.Region.{accepted};
-ghost use Rattle.region.specs.Sizes.{Sized};
 ghost use Rattle.region.specs.ReachOver.{Bounds};
 ghost use Rattle.region.specs.declared.Region.the-variants as R;
 ghost use Rattle.question.specs.Units.{Unit};
 ghost use Rattle.question.specs.Reach.{reachSize, Direction, Reaches};
 ghost use Rattle.question.specs.Slice.{Near, Either};
-use crate::exact::combined;
-use crate::exact::conjugate;
-use crate::exact::product;
 use crate::reach::near_root;
 use crate::reach::over_ellipse;
 use crate::units;
@@ -22,6 +19,9 @@ use line::row::nonneg;
 use region::Region;
 use region::Slice;
 use ring::RootTwo;
+use ring::exact::combined;
+use ring::exact::conjugate;
+use ring::exact::product;
 
 // A whole number near x.
 fn rounded(x: RootTwo) -> i64

@@ -8,15 +8,15 @@ ghost use Rattle.ring.specs.RootTwo.Power.{turn};
 ghost use Rattle.region.specs.Region.{topScale, accepted, acceptedJob};
 ghost use Rattle.question.specs.Reach.{Short, Direction};
 ghost use Rattle.question.specs.Strips.{endSize, Ends, Strip-of, Strips-of};
-use crate::exact::conjugate;
-use crate::exact::opposite;
-use crate::exact::power;
-use crate::exact::product;
 use crate::reach::over;
 use line::row::Strip;
 use region::Job;
 use region::Region;
 use ring::RootTwo;
+use ring::exact::conjugate;
+use ring::exact::opposite;
+use ring::exact::power;
+use ring::exact::product;
 
 // The strips of ζ and of its conjugate.
 pub(crate) struct Strips {

@@ -2,17 +2,17 @@
 ghost use mathlib.Core.Path.{_≡_};
 ghost use mathlib.Core.Bool.{true};
 ghost use Prim.Native.Nat.{_^_};
-ghost use Rattle.region.specs.Sizes.{Sized};
+ghost use Rattle.ring.specs.RootTwo.Sized.{Sized};
 ghost use Rattle.line.specs.Steps.{timesOf};
 ghost use Rattle.question.specs.Strips.{endSize, Ends};
 ghost use Rattle.question.specs.Units.{Unit, scaledOf};
-use crate::exact::combined;
-use crate::exact::conjugate;
-use crate::exact::product;
 use crate::reach::near_root;
 use crate::strips::Strips;
 use line::row::Strip;
 use ring::RootTwo;
+use ring::exact::combined;
+use ring::exact::conjugate;
+use ring::exact::product;
 
 // The greatest part of an end.
 const LARGEST: u64 = 137438953472;

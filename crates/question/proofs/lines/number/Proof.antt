@@ -8,9 +8,8 @@ use borrow.Author.Needs.{needs}
 use Rattle.integers.specs.Size.{back}
 use Rattle.ring.specs.declared.RootTwo.{RootTwo}
 use Rattle.ring.specs.RootTwo.{_⊠_}
-use Rattle.region.specs.Sizes.{Sized}
+use Rattle.ring.specs.RootTwo.Sized.{Sized, Products, products, product-size}
 use Rattle.line.specs.Row.{at}
-use Rattle.question.specs.Sizes.{Products, products, product-size}
 use Rattle.question.specs.Rows.{pairAt}
 use Rattle.question.proofs.lines.number.Statement.{statement}
 use Rattle.question.proofs.lines.number.Tie as tie

@@ -2,11 +2,10 @@ use mathlib.Core.Path.{sym, subst, subst₂}
 use Prim.Native.Nat.{_^_, _≤_}
 use lib.IntN.{pos, natAbs}
 use Rattle.integers.specs.Difference.{_≼_}
-use Rattle.region.specs.Sizes.{Sized}
+use Rattle.ring.specs.RootTwo.Sized.{Sized, sized-more, conj-size}
 use native.Mathlib.Omega.{arith}
 use borrow.Author.Needs.{needs}
 use Rattle.question.specs.declared.strips.Strips.{Strips}
-use Rattle.question.specs.Sizes.{sized-more, conj-size}
 use Rattle.question.specs.Lines.{Line-with}
 use Rattle.question.specs.Units.{line-scaled, line-same}
 use Rattle.question.proofs.lines.of_strips.Statement.{statement}

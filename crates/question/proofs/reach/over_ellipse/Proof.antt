@@ -9,11 +9,10 @@ use borrow.Author.Needs.{needs}
 use Rattle.integers.specs.Size.{size-+, size→fits}
 use Rattle.ring.specs.declared.RootTwo.{RootTwo}
 use Rattle.ring.specs.RootTwo.{_⊞_, _⊠_, num, ext, sum-parts, num-parts}
+use Rattle.ring.specs.RootTwo.Sized.{Sized, room, combined-size}
 use Rattle.region.specs.declared.Ellipse.{Ellipse}
 use Rattle.region.specs.declared.Region.the-variants as R
 use Rattle.region.specs.Accepted.{Ellipse-limits, ellipse-limits}
-use Rattle.region.specs.Sizes.{Sized, room}
-use Rattle.question.specs.Sizes.{combined-size}
 use Rattle.question.specs.Reach.{Reaches, ellipse-reaches}
 use Rattle.question.proofs.reach.over_ellipse.Statement.{statement}
 use Rattle.question.proofs.reach.over_ellipse.Tie as tie

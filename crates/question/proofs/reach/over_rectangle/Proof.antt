@@ -7,10 +7,10 @@ use mir.Facts.{toZ-ofZ}
 use borrow.Author.Needs.{needs}
 use Rattle.integers.specs.Size.{back}
 use Rattle.ring.specs.RootTwo.Order.{nonneg}
+use Rattle.ring.specs.RootTwo.Sized.{room}
 use Rattle.region.specs.declared.Rectangle.{Rectangle}
 use Rattle.region.specs.declared.Region.the-variants as R
 use Rattle.region.specs.Accepted.{rectangle-limits}
-use Rattle.region.specs.Sizes.{room}
 use Rattle.question.specs.Reach.{Reaches, farEnd, far-size, rectangle-reaches}
 use Rattle.question.proofs.reach.over_rectangle.Statement.{statement}
 use Rattle.question.proofs.reach.over_rectangle.Tie as tie

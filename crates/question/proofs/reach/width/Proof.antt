@@ -9,10 +9,9 @@ use borrow.Author.Needs.{needs}
 use Rattle.integers.specs.Size.{size-*≤, size→fits}
 use Rattle.ring.specs.declared.RootTwo.{RootTwo}
 use Rattle.ring.specs.RootTwo.{_⊞_, _⊠_, num}
+use Rattle.ring.specs.RootTwo.Sized.{Sized, room, products, product-size, combined-size}
 use Rattle.region.specs.declared.Ellipse.{Ellipse}
 use Rattle.region.specs.Accepted.{Ellipse-limits, ellipse-limits}
-use Rattle.region.specs.Sizes.{Sized, room}
-use Rattle.question.specs.Sizes.{products, product-size, combined-size}
 use Rattle.question.specs.Reach.{width-is}
 use Rattle.question.proofs.reach.width.Statement.{statement}
 use Rattle.question.proofs.reach.width.Tie as tie

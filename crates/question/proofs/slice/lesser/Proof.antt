@@ -9,7 +9,7 @@ use borrow.Author.Needs.{needs}
 use borrow.Author.Tests.{not-false}
 use Rattle.integers.specs.Size.{size--, size→fits}
 use Rattle.ring.specs.declared.RootTwo.{RootTwo}
-use Rattle.region.specs.Sizes.{Sized}
+use Rattle.ring.specs.RootTwo.Sized.{Sized}
 use Rattle.question.specs.Reach.{reachSize}
 use Rattle.question.proofs.slice.lesser.Statement.{statement}
 use Rattle.question.proofs.slice.lesser.Tie as tie

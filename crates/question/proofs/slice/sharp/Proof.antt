@@ -8,9 +8,8 @@ use borrow.Author.Needs.{needs}
 use borrow.Author.Tests.{not-false}
 use Rattle.integers.specs.Size.{back}
 use Rattle.ring.specs.declared.RootTwo.{RootTwo}
+use Rattle.ring.specs.RootTwo.Sized.{Sized, room, products, product-size, conj-size}
 use Rattle.region.specs.Accepted.{Slice-limits, slice-limits}
-use Rattle.region.specs.Sizes.{Sized, room}
-use Rattle.question.specs.Sizes.{products, product-size, conj-size}
 use Rattle.question.specs.Slice.{Near, Either, slice-reaches}
 use Rattle.question.proofs.slice.sharp.Statement.{statement}
 use Rattle.question.proofs.slice.sharp.Tie as tie

@@ -9,11 +9,10 @@ use borrow.Author.Needs.{needs}
 use Rattle.ring.specs.declared.RootTwo.{RootTwo}
 use Rattle.ring.specs.RootTwo.{_⊠_, neg}
 use Rattle.ring.specs.RootTwo.Power.{√2^}
+use Rattle.ring.specs.RootTwo.Sized.{Sized, Products, products, neg-size, sized-more, √2^-size}
 use Rattle.region.specs.Over.{scale, scale-limits}
-use Rattle.region.specs.Sizes.{Sized}
-use Rattle.question.specs.Sizes.{Products, products, neg-size, sized-more}
 use Rattle.question.specs.Reach.{reachSize, Reaches}
-use Rattle.question.specs.Strips.{Strip-of, power-sized, power-size, strip-of, strip-ext}
+use Rattle.question.specs.Strips.{Strip-of, power-size, strip-of, strip-ext}
 use Rattle.question.proofs.strips.strip.Statement.{statement}
 use Rattle.question.proofs.strips.strip.Tie as tie
 
@@ -48,7 +47,7 @@ cast-t11 c = search needs
 -- a reach times √2^k
 module _ (s : tie.Start) (h w : RootTwo) (e : w ≡ √2^ (s .args .k)) (z : Sized reachSize reachSize h) where
   fit : Products h w
-  fit = subst (Products h) (sym e) (products h (√2^ (s .args .k)) reachSize 1024 z (power-sized (s .args .k) (s .pre .1)) (omega arith))
+  fit = subst (Products h) (sym e) (products h (√2^ (s .args .k)) reachSize 1024 z (√2^-size (s .args .k) 10 (omega (arith, s .pre .1))) (omega arith))
 
   small : Sized (2 ^ 60) (2 ^ 60) (h ⊠ w)
   small = subst (λ w. Sized (2 ^ 60) (2 ^ 60) (h ⊠ w)) (sym e) (sized-more (reachSize * 1024) (2 ^ 60) _ (omega arith) (power-size (s .args .k) h reachSize (s .pre .1) z))

@@ -1,7 +1,7 @@
 use mathlib.Core.Path.{sym, _∙_, ap, subst}
 use native.Mathlib.Omega.{arith}
 use Rattle.ring.specs.RootTwo.{neg, conj}
-use Rattle.question.specs.Sizes.{neg-size, conj-size, sized-more}
+use Rattle.ring.specs.RootTwo.Sized.{neg-size, conj-size, sized-more}
 use Rattle.question.specs.Reach.{Short}
 use Rattle.question.specs.Strips.{turn-even, turn-odd}
 use Rattle.question.proofs.strips.turned.Statement.{statement}

@@ -2,7 +2,7 @@ use mathlib.Core.Path.{sym, subst}
 use Prim.Native.Nat.{_^_}
 use native.Mathlib.Omega.{arith}
 use borrow.Author.Needs.{needs}
-use Rattle.question.specs.Sizes.{sized-more}
+use Rattle.ring.specs.RootTwo.Sized.{sized-more}
 use Rattle.question.specs.Units.{Unit, unit-conj}
 use Rattle.question.proofs.units.balance.Statement.{statement}
 use Rattle.question.proofs.units.balance.Tie as tie

@@ -3,7 +3,7 @@ use Prim.Native.Nat.{_^_}
 use native.Mathlib.Omega.{arith}
 use Rattle.line.specs.declared.row.Strip.{Strip}
 use Rattle.line.specs.Steps.{timesOf}
-use Rattle.question.specs.Sizes.{sized-more}
+use Rattle.ring.specs.RootTwo.Sized.{sized-more}
 use Rattle.question.specs.Units.{Unit, unit-conj}
 use Rattle.question.proofs.units.scaled.Statement.{statement}
 use Rattle.question.proofs.units.scaled.Tie as tie

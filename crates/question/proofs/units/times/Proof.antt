@@ -4,7 +4,7 @@ use mir.Facts.{toZ-ofZ}
 use Rattle.integers.specs.Size.{size→fits}
 use mir.Syntax.{w64}
 use mir.Val.{SFits}
-use Rattle.question.specs.Sizes.{products}
+use Rattle.ring.specs.RootTwo.Sized.{products}
 use Rattle.question.specs.Strips.{endSize, strip-ext}
 use Rattle.question.proofs.units.times.Statement.{statement}
 use Rattle.question.proofs.units.times.Tie as tie

@@ -8,9 +8,8 @@ use mir.Facts.{toZ-ofZ}
 use borrow.Author.Needs.{needs}
 use Rattle.integers.specs.Size.{size-+, size→fits, back}
 use Rattle.ring.specs.declared.RootTwo.{RootTwo}
+use Rattle.ring.specs.RootTwo.Sized.{Sized, room, combined-size}
 use Rattle.region.specs.HalfWidth.{one-size}
-use Rattle.region.specs.Sizes.{Sized, room}
-use Rattle.question.specs.Sizes.{combined-size}
 use Rattle.question.specs.Strips.{endSize}
 use Rattle.question.proofs.units.width.Statement.{statement}
 use Rattle.question.proofs.units.width.Tie as tie
