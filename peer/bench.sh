@@ -58,6 +58,18 @@ whole_lists() {
     done
 }
 
+# Unit disks at scales above 12, whose lists are too long to be taken whole:
+# the first points, 1,024 in a call. The target is 0.2 µs a point.
+deep_lists() {
+    echo 'The first 512,000 points of unit disks at scales above 12, by the console: seconds, microseconds a point'
+    for job in "$jobs"/deep_disks-*.job; do
+        { cat "${job%.job}.reads"; yes 'hand 4096' | head -n 500; } >"$scratch/script"
+        printed=/dev/null
+        run "$list_limit" "$scratch/script" "$bin/console"
+        printf '%-16s %8s %6s\n' "$(basename "$job" .job)" "$took" "$(awk -v t="$took" 'BEGIN { printf "%.2f", t / 0.512 }')"
+    done
+}
+
 # Thin slices as A, the unit disk as B: a first point, whose target is 0.020,
 # and the whole list, beside that of the ellipse around the slice.
 slices() {
@@ -283,6 +295,8 @@ hard_jobs() {
 }
 
 whole_lists
+echo
+deep_lists
 echo
 slices
 echo
