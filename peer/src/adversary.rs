@@ -17,11 +17,13 @@ pub struct Adversary {
     random: Random,
     /// The least and the greatest scale; up to 12 they are those of `SCALES`.
     scales: [i64; 2],
+    /// One side in so many is a slice; none is, if it is 0.
+    slices: i64,
 }
 
 impl Adversary {
-    pub fn new(seed: u64, scales: [i64; 2]) -> Self {
-        Adversary { random: Random::new(seed), scales }
+    pub fn new(seed: u64, scales: [i64; 2], slices: i64) -> Self {
+        Adversary { random: Random::new(seed), scales, slices }
     }
 
     /// The records of a job.
@@ -38,7 +40,7 @@ impl Adversary {
 
     fn side(&mut self) -> Vec<u8> {
         let n = self.random.pick(&DIVISORS);
-        if self.random.once_in(3) {
+        if self.slices > 0 && self.random.once_in(self.slices) {
             return self.slice(n);
         }
         if self.random.once_in(2) {

@@ -90,13 +90,12 @@ fn run(arguments: &[String]) -> Outcome {
         ("pack", []) => pack(),
         ("jobs", [directory]) => write_jobs(Path::new(directory)),
         ("noise", []) => noise(),
-        ("time", [console, seed, count, least, most, limit]) => {
+        ("time", [console, seed, count, least, most, slices, limit, calls @ ..])
+            if calls.len() < 2 =>
+        {
             let scales = [number(least)?, number(most)?];
-            time(console, number(seed)?, number(count)?, scales, number(limit)?, None)
-        }
-        ("time", [console, seed, count, least, most, limit, call]) => {
-            let scales = [number(least)?, number(most)?];
-            time(console, number(seed)?, number(count)?, scales, number(limit)?, Some(call))
+            let adversary = Adversary::new(number(seed)?, scales, number(slices)?);
+            time(console, adversary, number(count)?, number(limit)?, calls.first())
         }
         ("bytes", [program, from, to, step]) => {
             check_bytes(program, number(from)?, number(to)?, number(step)?)
@@ -348,15 +347,13 @@ fn hex(bytes: &[u8]) -> String {
 /// milliseconds.
 fn time(
     console: &str,
-    seed: u64,
+    mut adversary: Adversary,
     count: usize,
-    scales: [i64; 2],
     limit: i64,
-    call: Option<&str>,
+    call: Option<&String>,
 ) -> Outcome {
     let console = Console::new(console)?;
-    say(format!("start {} µs; jobs {count}, seed {seed}, k {scales:?}", console.start()))?;
-    let mut adversary = Adversary::new(seed, scales);
+    say(format!("start {} µs", console.start()))?;
     let jobs: Vec<String> = std::iter::repeat_with(|| {
         let reads = adversary.job().map(|record| format!("read {}\n", hex(&record)));
         format!("clear\n{}", reads.concat())
