@@ -72,10 +72,9 @@ fn half_width(e: Ellipse, u: RootTwo, v: RootTwo) -> u64
     requires { ⌜ (accepted (R.Ellipse e) ≡ true) × Direction u v ⌝ }
     ensures { λ r. ⌜ Half-width e u v r ⌝ }
 {
-    let s = e.s as u64;
     let f = ceiling(width(e, u, v));
     let d = e.discriminant() as u64;
-    region::reach::ceil_sqrt((s * f + (d - 1)) / d)
+    lengths::roots::half_width(e.s, f, d)
 }
 
 pub(crate) fn over_ellipse(e: Ellipse, u: RootTwo, v: RootTwo) -> RootTwo

@@ -14,7 +14,7 @@ ghost use Rattle.question.specs.Slice.{Near, Either};
 use crate::reach::near_root;
 use crate::reach::over_ellipse;
 use crate::units;
-use cuts::near;
+use lengths::near;
 use line::row::nonneg;
 use region::Region;
 use region::Slice;

@@ -1,31 +1,28 @@
 -- How far a slice reaches: no farther than its disk, and no farther than a sum of the disk's cut and a multiple of the half plane says. Both are cuts, and a
 -- cut times a natural number and the sum of two cuts are cuts, so that no multiple needs a proof. Where the half plane only touches the disk, they have one point in common.
-use mathlib.Core.Path.{_≡_, refl, sym, _∙_, ap, ap₂, subst}
+use mathlib.Core.Path.{_≡_, refl, _∙_, ap, subst}
 use mathlib.Core.List.{[], _∷_}
-use mathlib.Core.Bool.{true}
-use Prim.Native.Nat.{ℕ, _+_, _*_, _^_, _≤_, zero-le}
-use native.Mathlib.Nat.{le-refl}
+use mathlib.Core.Bool.{Bool, true}
+use Prim.Native.Nat.{ℕ, _+_, _*_, _≤_, zero-le}
 use native.Mathlib.Omega.{arith}
 use lib.Dec.{le→leb}
-use lib.IntN.{ℤ, pos, negsuc, negℤ, natAbs, _+ℤ_, _-ℤ_, _*ℤ_}
-use lib.Signed.{yes-nonNeg, pos-natAbs}
-use borrow.Author.Tests.{leb-true, le-leb}
-use Rattle.integers.specs.Difference.{by⊖, zz, _≼_, _≺_}
+use lib.IntN.{ℤ, pos, natAbs, _+ℤ_, _-ℤ_, _*ℤ_}
+use Rattle.integers.specs.Difference.{_≼_}
 use Rattle.integers.specs.Order.{≼-trans}
 use Rattle.integers.specs.Ring.{poly, by-ring}
 use Rattle.integers.specs.RingZ.{polyZ}
 use Rattle.integers.specs.RingZ as Z
 use Rattle.ring.specs.declared.RootTwo.{RootTwo}
 use Rattle.ring.specs.RootTwo.{_⊞_, _⊟_, _⊠_, neg, num, ring√, num-+, num-*, num-neg}
-use Rattle.ring.specs.RootTwo.Order.{Nn, _⊑_, nn-by, nn-+, nn-*, nn-num, nn-cancel, num-⊑, sq-⊑}
+use Rattle.ring.specs.RootTwo.Order.{_⊑_, nn-by, nn-+, nn-*, nn-num, nn-cancel, num-⊑, sq-⊑}
 use Rattle.ring.specs.RootTwo.Order as O
+use Rattle.lengths.specs.Products.{square, touches, touches-true}
+use Rattle.lengths.specs.Rounded.{Length}
 use Rattle.region.specs.declared.Slice.{Slice}
 use Rattle.region.specs.declared.Region.the-variants as R
-use Rattle.region.specs.declared.half.Fraction.{Fraction}
 use Rattle.region.specs.Region.{discriminant, form, disk}
 use Rattle.region.specs.Membership.{holds-in, holds-disk}
 use Rattle.region.specs.Reach.{width2}
-use Rattle.region.specs.Least.{ceilDiv, ceil-div-≤}
 use Rattle.region.specs.Over.{Over, over-ellipse}
 
 -- what holds of the disk
@@ -49,19 +46,16 @@ over-half s u v h m p q one l o w X Y hw t =
         ≡ Q ⊠ (h ⊠ w ⊟ (u ⊠ x ⊞ v ⊠ y))
     sum Q P u v a b c m h w x y = by-ring ring√ (Q ∷ P ∷ u ∷ v ∷ a ∷ b ∷ c ∷ m ∷ h ∷ w ∷ x ∷ y ∷ []) (search poly depth 60 fits 5000) refl
 
-square : (a : ℤ) → a *ℤ a ≡ pos (natAbs a * natAbs a)
-square (pos n) = refl
-square (negsuc n) = refl
-
 -- ---- the half plane leaves one point of the disk at most: w is at least n |z|
+abbrev pub isPoint : Slice → Bool
+isPoint s = touches (pos (s .n)) (s .zx) (s .zy) (s .w)
+
 pub record One-point (s : Slice) : Type 0 where
   pub positive : pos 1 ≼ s .w
   pub enough : pos (s .n) *ℤ pos (s .n) *ℤ (s .zx *ℤ s .zx +ℤ s .zy *ℤ s .zy) ≼ s .w *ℤ s .w
 
-pub one-point : (s : Slice) (f w : ℕ) → f ≡ natAbs (s .zx *ℤ s .zx +ℤ s .zy *ℤ s .zy) → w ≡ natAbs (s .w) → pos 1 ≼ s .w → s .n * s .n * f ≤ w * w → One-point s
-one-point s f w ef ew one h =
-    let z : s .zx *ℤ s .zx +ℤ s .zy *ℤ s .zy ≡ pos f = ap₂ _+ℤ_ (square (s .zx)) (square (s .zy)) ∙ ap pos (sym (ef ∙ ap natAbs (ap₂ _+ℤ_ (square (s .zx)) (square (s .zy))))) in
-    record { positive = one; enough = rw (z, square (s .w), sym ew) (record { le = le→leb (s .n * s .n * f) (w * w) h }) }
+pub one-point : (s : Slice) → isPoint s ≡ true → One-point s
+one-point s e = let h = touches-true (pos (s .n)) (s .zx) (s .zy) (s .w) e in record { positive = h .0; enough = h .1 }
 
 -- S = w x − n² zx W and T = w y − n² zy W are 0, as −(S² + T²) is a sum of what the slice says; so w (u x + v y) is n² (u zx + v zy) W
 pub over-point : (s : Slice) (u v h : ℤ) → One-point s → pos (s .n) *ℤ pos (s .n) *ℤ (u *ℤ s .zx +ℤ v *ℤ s .zy) ≼ s .w *ℤ h → Over (R.Slice s) u v h
@@ -106,10 +100,6 @@ over-point s u v h o l w X Y hw t =
     rest c N a b u v h w x y = by-ring ring√ (c ∷ N ∷ a ∷ b ∷ u ∷ v ∷ h ∷ w ∷ x ∷ y ∷ []) (search poly depth 60 fits 5000) refl
 
 -- ---- the disk's reach in a long direction: n √(a² + b²), rounded up
-pub record Length (n : ℕ) (a b : ℤ) (m : ℕ) : Type 0 where
-  pub enough : n * n * (natAbs a * natAbs a + natAbs b * natAbs b) ≤ m * m
-  pub size : m ≤ 2 ^ 30
-
 pub over-length : (s : Slice) (a b : ℤ) (m : ℕ) → Length (s .n) a b m → Over (R.Slice s) a b (pos m)
 over-length s a b m l =
     over-disk s a b (pos m)
@@ -124,38 +114,3 @@ over-length s a b m l =
 
     enough : pos (s .n * s .n) *ℤ pos (natAbs a * natAbs a + natAbs b * natAbs b) ≼ pos m *ℤ pos m *ℤ discriminant (disk s)
     enough = record { le = le→leb (s .n * s .n * (natAbs a * natAbs a + natAbs b * natAbs b)) (m * m * 1) (omega (arith, l .enough)) }
-
--- t/q, rounded up, and not below −2³¹
-pub record Quotient (t : ℤ) (q : ℕ) (h : ℤ) : Type 0 where
-  pub above : t ≼ pos q *ℤ h
-  pub low : negsuc 2147483647 ≼ h
-
-pub quotient-low : (t : ℤ) (q : ℕ) → t +ℤ pos 2147483648 *ℤ pos q ≺ pos 0 → Quotient t q (negsuc 2147483647)
-quotient-low t q h = record { above = go t q h; low = record { le = tt } }
-  where
-    go : (t : ℤ) (q : ℕ) → t +ℤ pos 2147483648 *ℤ pos q ≺ pos 0 → t ≼ pos q *ℤ negsuc 2147483647
-    go = by⊖ _ λ p n q. simp zz (omega arith)
-
-pub quotient-high : (t : ℤ) (q : ℕ) → 1 ≤ q → pos 0 ≼ t +ℤ pos 2147483648 *ℤ pos q → Quotient t q (pos (ceilDiv (natAbs (t +ℤ pos 2147483648 *ℤ pos q)) q) -ℤ pos 2147483648)
-quotient-high t q one h =
-    let s = natAbs (t +ℤ pos 2147483648 *ℤ pos q) in
-    let c = ceilDiv s q in
-    record { above = go s c (pos-natAbs _ (yes-nonNeg h)) (leb-true s (c * q) (sym (ceil-div-≤ s q c one) ∙ le-leb c c (le-refl c))); low = below (pos c) (pos 2147483648) (record { le = le→leb 0 c zero-le }) }
-  where
-    turned : (t k h : ℤ) (s : ℕ) → pos s ≡ t +ℤ k → pos s ≼ k +ℤ h → t ≼ h
-    turned = by⊖ _ λ a a′. by⊖ _ λ b b′. by⊖ _ λ c c′ s. simp zz (omega arith)
-
-    spread : (q c k : ℤ) → k *ℤ q +ℤ q *ℤ (c -ℤ k) ≡ c *ℤ q
-    spread q c k = Z.by-ring (q ∷ c ∷ k ∷ []) (search polyZ depth 30) refl
-
-    go : (s c : ℕ) → pos s ≡ t +ℤ pos 2147483648 *ℤ pos q → s ≤ c * q → t ≼ pos q *ℤ (pos c -ℤ pos 2147483648)
-    go s c e l = turned t (pos 2147483648 *ℤ pos q) _ s e (rw (spread (pos q) (pos c) (pos 2147483648)) (record { le = le→leb s (c * q) l }))
-
-    below : (c k : ℤ) → pos 0 ≼ c → negℤ k ≼ c -ℤ k
-    below = by⊖ _ λ a a′. by⊖ _ λ b b′. simp zz (omega arith)
-
--- a guess: any numbers of these sizes will do
-pub record Fraction-size (f : Fraction) : Type 0 where
-  pub p-size : f .p ≤ 2 ^ 41
-  pub q-low : 1 ≤ f .q
-  pub q-high : f .q ≤ 256

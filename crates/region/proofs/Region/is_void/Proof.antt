@@ -1,4 +1,4 @@
-use mathlib.Core.Path.{_≡_, refl, sym, ap, _∙_}
+use mathlib.Core.Path.{sym, ap, _∙_}
 use borrow.Author.Needs.{needs}
 use Rattle.region.specs.Void.{isVoid}
 use Rattle.region.proofs.Region.is_void.Statement.{statement}

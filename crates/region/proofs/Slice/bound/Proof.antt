@@ -1,5 +1,6 @@
 use mathlib.Core.Path.{_∙_}
-use mir.Syntax.{w64}
+use mir.Syntax.{w32, w64}
+use mir.Val.{SFits}
 use mir.Facts.{toZ-ofZ}
 use Rattle.integers.specs.Size.{back}
 use Rattle.region.specs.Accepted.{slice-limits, disk-accepted}
@@ -20,19 +21,23 @@ point-requires c κs =
     let r = back w64 (c .reach .ok) ∙ (simp (c .before .disk .ensures, toZ-ofZ (s .fits .u), toZ-ofZ (s .fits .v)) at (c .reach .ensures)) in
     (s .pre .0, rw (toZ-ofZ (s .fits .u), toZ-ofZ (s .fits .v), r) (disk-bounds (s .args .self) (s .args .u) (s .args .v) (s .pre .0) (s .pre .1) (s .pre .2)))
 
-fraction-requires : tie.Need-fraction-requires
-fraction-requires c κs = let s = c .before .before .before in slice-limits (s .args .self) (s .pre .0)
+at-chord-requires : tie.Need-at-chord-requires
+at-chord-requires c κs =
+    let s = c .before .before .before .before .before .before in
+    let l = slice-limits (s .args .self) (s .pre .0) in
+    let h : SFits w32 (s .args .self .w) = search needs in
+    (l .n-high, rw (toZ-ofZ h) (l .w-size))
 
 sum-requires : tie.Need-sum-requires
 sum-requires c κs =
-    let s = c .before .before .before .before in
-    let e = c .fraction .ensures in
-    let h = c .before .point in
+    let s = c .before .before .before .before .before .before .before in
+    let e = c .at-chord .ensures in
+    let h = c .before .before .before .before .point in
     (s .pre .0, e .p-size, e .q-low, e .q-high, rw (toZ-ofZ (s .fits .u), toZ-ofZ (s .fits .v), back w64 (h .ok)) (simp (toZ-ofZ (s .fits .u), toZ-ofZ (s .fits .v)) at (h .ensures)))
 
 returns : tie.Need-returns
-returns c = let s = c .before .before .before .before .before in rw (back w64 (c .sum .ok)) (simp (toZ-ofZ (s .fits .u), toZ-ofZ (s .fits .v)) at (c .sum .ensures))
+returns c = let s = c .before .before .before .before .before .before .before .before in rw (back w64 (c .sum .ok)) (simp (toZ-ofZ (s .fits .u), toZ-ofZ (s .fits .v)) at (c .sum .ensures))
 
 pub bound-spec : {M : Type 1} → statement M
 bound-spec =
-    tie.close (tie.spec disk-requires reach-requires point-requires fraction-requires sum-requires returns)
+    tie.close (tie.spec disk-requires reach-requires point-requires at-chord-requires sum-requires returns)

@@ -1,4 +1,4 @@
-use mathlib.Core.Path.{_≡_, _∙_, ap}
+use mathlib.Core.Path.{_≡_, sym, _∙_, ap}
 use Prim.Native.Nat.{_^_, _≤_}
 use native.Mathlib.Omega.{arith}
 use lib.IntN.{ℤ, pos, natAbs, _+ℤ_, _*ℤ_}
@@ -14,9 +14,9 @@ use Rattle.integers.specs.Size.{back}
 use Rattle.region.specs.declared.Slice.{Slice}
 use Rattle.region.specs.Accepted.{Slice-limits, slice-limits}
 use Rattle.region.specs.HalfWidth.{positive-nn, one-size}
-use Rattle.region.specs.Slice.{One-point}
+use Rattle.region.specs.Slice.{One-point, one-point}
 use Rattle.region.specs.ReachOver.{point-bounds}
-use Rattle.region.proofs.Casts.{widen-fits, widened}
+use Rattle.lengths.proofs.Casts.{widen-fits, widened}
 use Rattle.region.proofs.Slice.point.Statement.{statement}
 use Rattle.region.proofs.Slice.point.Tie as tie
 
@@ -35,7 +35,7 @@ module _ (c : tie.Else1) where
   s = start .args .self
 
   one : One-point s
-  one = c .before .is-point .ensures (not-false _ (c .if1 .left))
+  one = one-point s (sym (c .before .is-point .ensures) ∙ not-false _ (c .if1 .left))
 
   limits : Slice-limits s
   limits = slice-limits s (start .pre .0)

@@ -11,7 +11,7 @@ use Rattle.integers.specs.Tests.{ltZ-true}
 use Rattle.integers.specs.Size.{size--, size-*≤, back}
 use Rattle.region.specs.declared.Slice.{Slice}
 use Rattle.region.specs.Accepted.{Slice-limits, slice-limits}
-use Rattle.region.specs.Slice.{Length, Quotient}
+use Rattle.lengths.specs.Rounded.{Length}
 use Rattle.region.specs.ReachOver.{sum-bounds}
 use borrow.Author.Needs.{needs}
 use Rattle.region.proofs.Slice.sum.Statement.{statement}
