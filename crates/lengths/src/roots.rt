@@ -23,14 +23,35 @@ fn roof(n: u64) -> u64
     }
 }
 
-// Half way from x to n/x: a step of Newton's towards √n.
+// Half way from x to n/x, rounded up: a step of Newton's towards √n.
 fn halfway(x: u64, n: u64) -> u64 {
-    if x == 0 { 1 } else { x / 2 + n / x / 2 }
+    if x == 0 { 1 } else { x / 2 + n / x / 2 + 1 }
+}
+
+// h, if n has more than 2·h binary digits, and else 0.
+fn beyond(n: u64, h: u64) -> u64
+    requires { ⌜ h ≤ 16 ⌝ }
+    ensures { λ r. ⌜ r ≤ h ⌝ }
+{
+    if n >> (2 * h) == 0 { 0 } else { h }
+}
+
+// A power of 2 above √n, and at most some two times it.
+fn power_above(n: u64) -> u64 {
+    let a = beyond(n, 16);
+    let m = n >> (2 * a);
+    let b = beyond(m, 8);
+    let l = m >> (2 * b);
+    let c = beyond(l, 4);
+    let k = l >> (2 * c);
+    let d = beyond(k, 2);
+    let e = beyond(k >> (2 * d), 1);
+    1 << (a + b + c + d + e + 1)
 }
 
 // About √n, from above: nothing is claimed of how near.
 fn near_root(n: u64) -> u64 {
-    let mut x = roof(n);
+    let mut x = power_above(n);
     let mut i: u64 = 0;
     while i < 5 {
         x = halfway(x, n);

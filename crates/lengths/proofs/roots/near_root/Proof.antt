@@ -10,8 +10,8 @@ Inv-loop n x₀ i₀ x i = i ≤ 5
 abbrev μ-loop : tie.MeasureT-loop
 μ-loop n x₀ i₀ x i = 5 - i
 
-roof-requires : tie.Need-roof-requires Inv-loop μ-loop
-roof-requires c κs = search needs
+power-above-requires : tie.Need-power-above-requires Inv-loop μ-loop
+power-above-requires c κs = search needs
 
 loop-holds : tie.Need-loop-holds Inv-loop μ-loop
 loop-holds c = omega arith
@@ -35,4 +35,4 @@ returns : tie.Need-returns Inv-loop μ-loop
 returns c = search needs
 
 pub near-root-spec : {M : Type 1} → statement M
-near-root-spec = tie.close (tie.spec Inv-loop μ-loop roof-requires loop-holds halfway-requires add-i loop-less loop-again above-requires returns)
+near-root-spec = tie.close (tie.spec Inv-loop μ-loop power-above-requires loop-holds halfway-requires add-i loop-less loop-again above-requires returns)
