@@ -4,3 +4,4 @@ pub mod near;
 pub mod products;
 pub mod roots;
 pub mod rough;
+pub mod tangent;

@@ -1,6 +1,5 @@
 use mathlib.Core.Path.{_≡_, sym, _∙_, subst}
 use Prim.Native.Nat.{_*_, _^_, _≤_}
-use native.Mathlib.Nat.{mul-le-mul}
 use native.Mathlib.Omega.{arith}
 use lib.IntN.{pos, natAbs}
 use lib.Signed.{yes-nonNeg, pos-natAbs}
@@ -18,9 +17,6 @@ use Rattle.question.specs.Reach.{Half-width, half-width-found}
 use Rattle.question.proofs.reach.half_width.Statement.{statement}
 use Rattle.question.proofs.reach.half_width.Tie as tie
 
-cast-s : tie.Need-cast-s
-cast-s c = search needs
-
 width-requires : tie.Need-width-requires
 width-requires c κs = search needs
 
@@ -32,7 +28,7 @@ discriminant-requires c κs = search needs
 
 module _ (c : tie.After-discriminant) where
   abbrev s : tie.Start
-  s = c .before .before .before .before
+  s = c .before .before .before
 
   abbrev e : Ellipse
   e = s .args .e
@@ -52,33 +48,18 @@ module _ (c : tie.After-discriminant) where
   f-size : c .before .ceiling .result ≤ 2 ^ 29
   f-size = c .before .ceiling .ensures .0
 
-  product-size : e .s * c .before .ceiling .result ≤ 1000000 * 2 ^ 29
-  product-size = mul-le-mul (limits .s-high) f-size
-
 cast-d : tie.Need-cast-d
 cast-d c = rw (d-is c) (yes-nonNeg (positive-nn (discriminant (e c)) (limits c .positive)), omega (arith, d-size c))
 
-mul-ceil-sqrt : tie.Need-mul-ceil-sqrt
-mul-ceil-sqrt c = omega (arith, product-size c)
-
-sub-ceil-sqrt : tie.Need-sub-ceil-sqrt
-sub-ceil-sqrt c = rw (d-is c) (d-one c)
-
-add-ceil-sqrt : tie.Need-add-ceil-sqrt
-add-ceil-sqrt c = rw (d-is c) (omega (arith, product-size c, d-size c))
-
-div-ceil-sqrt : tie.Need-div-ceil-sqrt
-div-ceil-sqrt c = rw (d-is c) (d-one c)
-
-ceil-sqrt-requires : tie.Need-ceil-sqrt-requires
-ceil-sqrt-requires c κs = search needs
+half-width-requires : tie.Need-half-width-requires
+half-width-requires c κs = (limits c .s-high, omega (arith, f-size c), rw (d-is c) (d-one c), rw (d-is c) (d-size c))
 
 returns : tie.Need-returns
 returns c =
     let d = c .before in
     let f = d .before .ceiling in
     let w = subst (λ x. x ⊑ num (pos (f .result))) (d .before .before .width .ensures .0) (f .ensures .1) in
-    let m = rw (d-is d) at (c .ceil-sqrt .ensures) in
+    let m = rw (d-is d) at (c .half-width .ensures) in
     subst (Half-width (e d) (s d .args .u) (s d .args .v)) (sym m)
     (half-width-found (e d) (s d .args .u) (s d .args .v) (f .result) (natAbs (discriminant (e d))) (limits d) w (f-size d) (sym (pos-natAbs _ (yes-nonNeg (positive-nn (discriminant (e d)) (limits d .positive))))) (d-one d))
 
@@ -86,14 +67,9 @@ pub half-width-spec : {M : Type 1} → statement M
 half-width-spec =
     tie.close
     (tie.spec
-    cast-s
     width-requires
     ceiling-requires
     discriminant-requires
     cast-d
-    mul-ceil-sqrt
-    sub-ceil-sqrt
-    add-ceil-sqrt
-    div-ceil-sqrt
-    ceil-sqrt-requires
+    half-width-requires
     returns)
