@@ -20,6 +20,7 @@ fn divided(a: u64, b: u64) -> u64
     if b == 0 { a } else { a / b }
 }
 
+// n or 0.
 fn kept(is: bool, n: u64) -> u64
     ensures { λ r. ⌜ r ≤ n ⌝ }
 {

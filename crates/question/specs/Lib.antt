@@ -5,7 +5,7 @@ pub mod Nest
 pub mod Reach
 pub mod Rows
 pub mod Search
-pub mod Slice
+pub mod Sharp
 pub mod Strips
 pub mod Units
 pub mod Void

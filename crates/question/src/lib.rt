@@ -14,7 +14,7 @@ mod lines;
 mod reach;
 mod reduce;
 mod search;
-mod slice;
+mod sharp;
 mod strips;
 mod units;
 

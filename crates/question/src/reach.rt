@@ -8,10 +8,12 @@ ghost use Rattle.ring.specs.RootTwo.Order.{nonneg, _⊑_};
 ghost use Rattle.ring.specs.RootTwo.Sized.{Sized};
 ghost use Rattle.region.specs.Region.{accepted};
 ghost use Rattle.region.specs.declared.Region.the-variants as R;
+ghost use Rattle.region.specs.Enclosure.{regionOf};
 ghost use Rattle.question.specs.Reach.{Direction, farEnd, widthOf, Half-width, Reaches};
-use crate::slice;
+use crate::sharp::sharpened;
 use line::row::nonneg;
 use region::Ellipse;
+use region::Enclosure;
 use region::Rectangle;
 use region::Region;
 use ring::RootTwo;
@@ -77,7 +79,7 @@ fn half_width(e: Ellipse, u: RootTwo, v: RootTwo) -> u64
     lengths::roots::half_width(e.s, f, d)
 }
 
-pub(crate) fn over_ellipse(e: Ellipse, u: RootTwo, v: RootTwo) -> RootTwo
+fn over_ellipse(e: Ellipse, u: RootTwo, v: RootTwo) -> RootTwo
     requires { ⌜ (accepted (R.Ellipse e) ≡ true) × Direction u v ⌝ }
     ensures { λ h. ⌜ Reaches (R.Ellipse e) u v h ⌝ }
 {
@@ -89,13 +91,24 @@ pub(crate) fn over_ellipse(e: Ellipse, u: RootTwo, v: RootTwo) -> RootTwo
     }
 }
 
+fn over_enclosure(around: Enclosure, u: RootTwo, v: RootTwo) -> RootTwo
+    requires { ⌜ (accepted (regionOf around) ≡ true) × Direction u v ⌝ }
+    ensures { λ h. ⌜ Reaches (regionOf around) u v h ⌝ }
+{
+    match around {
+        Enclosure::Rectangle(r) => over_rectangle(r, u, v),
+        Enclosure::Ellipse(e) => over_ellipse(e, u, v),
+    }
+}
+
 pub(crate) fn over(region: Region, u: RootTwo, v: RootTwo) -> RootTwo
     requires { ⌜ (accepted region ≡ true) × Direction u v ⌝ }
     ensures { λ h. ⌜ Reaches region u v h ⌝ }
 {
-    match region {
-        Region::Rectangle(r) => over_rectangle(r, u, v),
-        Region::Ellipse(e) => over_ellipse(e, u, v),
-        Region::Slice(s) => slice::over_slice(s, u, v),
+    let d = over_enclosure(region.enclosure(), u, v);
+    let n = region.radius();
+    if n == 0 {
+        return d;
     }
+    sharpened(region, n, u, v, d)
 }

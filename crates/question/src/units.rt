@@ -1,7 +1,6 @@
 // Units of Z[√2] that balance two strips: multiplication by (3 + 2√2)^n widens the one and narrows the other, so that rows are few.
 ghost use mathlib.Core.Path.{_≡_};
 ghost use mathlib.Core.Bool.{true};
-ghost use Prim.Native.Nat.{_^_};
 ghost use Rattle.ring.specs.RootTwo.Sized.{Sized};
 ghost use Rattle.line.specs.Steps.{timesOf};
 ghost use Rattle.question.specs.Strips.{endSize, Ends};

@@ -1,61 +1,50 @@
-use mathlib.Core.Path.{_≡_, sym, subst}
-use mathlib.Core.Bool.{true}
+use mathlib.Core.Path.{sym, subst}
+use Prim.Native.Nat.{ℕ, _≤_}
+use native.Mathlib.Omega.{arith}
 use borrow.Author.Needs.{needs}
-use Rattle.region.specs.declared.Region.{Region}
-use Rattle.region.specs.Region.{accepted}
-use Rattle.question.specs.Reach.{Reaches}
+use Rattle.region.specs.declared.Enclosure.{Enclosure}
+use Rattle.region.specs.Enclosure.{regionOf, radius, enclosed-accepted, In-disk, in-disk}
+use Rattle.question.specs.Reach.{Reaches, enclosed-reaches}
 use Rattle.question.proofs.reach.over.Statement.{statement}
 use Rattle.question.proofs.reach.over.Tie as tie
 
-enum-known-region : tie.Need-enum-known-region
-enum-known-region c = search needs
+enclosure-requires : tie.Need-enclosure-requires
+enclosure-requires c κs = search needs
 
-over-rectangle-requires : tie.Need-over-rectangle-requires
-over-rectangle-requires c κs =
-    let s = c .before .before .before in
-    (subst (λ (r : Region). accepted r ≡ true) (c .before .region .given .1) (s .pre .0), s .pre .1)
+over-enclosure-requires : tie.Need-over-enclosure-requires
+over-enclosure-requires c κs = let s = c .before in (rw (c .enclosure .ensures) (enclosed-accepted (s .args .region) (s .pre .0)), s .pre .1)
 
-enum-known-region-2 : tie.Need-enum-known-region-2
-enum-known-region-2 c = search needs
+radius-requires : tie.Need-radius-requires
+radius-requires c κs = search needs
 
-over-ellipse-requires : tie.Need-over-ellipse-requires
-over-ellipse-requires c κs =
-    let s = c .before .before .before in
-    (subst (λ (r : Region). accepted r ≡ true) (c .before .region2 .given .1) (s .pre .0), s .pre .1)
-
-enum-known-region-3 : tie.Need-enum-known-region-3
-enum-known-region-3 c = search needs
-
-over-slice-requires : tie.Need-over-slice-requires
-over-slice-requires c κs =
-    let s = c .before .before .before in
-    (subst (λ (r : Region). accepted r ≡ true) (c .before .region3 .given .1) (s .pre .0), s .pre .1)
+-- what the enclosure says
+reached : (c : tie.After-over-enclosure) → let s = c .before .before in Reaches (s .args .region) (s .args .u) (s .args .v) (c .over-enclosure .result)
+reached c =
+    let s = c .before .before in
+    enclosed-reaches (s .args .region) (s .args .u) (s .args .v) (c .over-enclosure .result)
+    (subst (λ (x : Enclosure). Reaches (regionOf x) (s .args .u) (s .args .v) (c .over-enclosure .result)) (c .before .enclosure .ensures) (c .over-enclosure .ensures))
 
 returns : tie.Need-returns
-returns c =
-    let s = c .before .before .before .before in
-    subst (λ (r : Region). Reaches r (s .args .u) (s .args .v) (c .over-rectangle .result)) (sym (c .before .before .region .given .1)) (c .over-rectangle .ensures)
+returns c = reached (c .before .before)
+
+sharpened-requires : tie.Need-sharpened-requires
+sharpened-requires c κs =
+    let o = c .before .before in
+    let s = o .before .before in
+    let e = c .before .radius .ensures in
+    let h : 1 ≤ radius (s .args .region) = subst (λ (n : ℕ). 1 ≤ n) e (omega (arith, c .if1 .left)) in
+    (s .pre .0, s .pre .1, reached o, subst (λ (n : ℕ). In-disk (s .args .region) n) (sym e) (in-disk (s .args .region) (s .pre .0) h))
 
 returns-2 : tie.Need-returns-2
-returns-2 c =
-    let s = c .before .before .before .before in
-    subst (λ (r : Region). Reaches r (s .args .u) (s .args .v) (c .over-ellipse .result)) (sym (c .before .before .region2 .given .1)) (c .over-ellipse .ensures)
-
-returns-3 : tie.Need-returns-3
-returns-3 c =
-    let s = c .before .before .before .before in
-    subst (λ (r : Region). Reaches r (s .args .u) (s .args .v) (c .over-slice .result)) (sym (c .before .before .region3 .given .1)) (c .over-slice .ensures)
+returns-2 c = search needs
 
 pub over-spec : {M : Type 1} → statement M
 over-spec =
     tie.close
     (tie.spec
-    enum-known-region
-    over-rectangle-requires
-    enum-known-region-2
-    over-ellipse-requires
-    enum-known-region-3
-    over-slice-requires
+    enclosure-requires
+    over-enclosure-requires
+    radius-requires
     returns
-    returns-2
-    returns-3)
+    sharpened-requires
+    returns-2)

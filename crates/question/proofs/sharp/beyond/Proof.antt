@@ -7,8 +7,8 @@ use mir.Val.{SFits, toZ}
 use mir.Facts.{toZ-ofZ, toZ-pos}
 use borrow.Author.Needs.{needs}
 use Rattle.integers.specs.Size.{size-+, size-*≤, size→fits}
-use Rattle.question.proofs.slice.beyond.Statement.{statement}
-use Rattle.question.proofs.slice.beyond.Tie as tie
+use Rattle.question.proofs.sharp.beyond.Statement.{statement}
+use Rattle.question.proofs.sharp.beyond.Tie as tie
 
 -- 2n and the sum
 module _ (c : tie.Start) where

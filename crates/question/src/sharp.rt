@@ -1,4 +1,4 @@
-// How far a slice reaches in a direction (u, v) of Z[√2]: no farther than its disk, nor than a whole direction near (u, v) says. A unit makes the direction long first, so
+// How far a region in a disk about 0 reaches in a direction (u, v) of Z[√2]: no farther than a whole direction near (u, v) says. A unit makes the direction long first, so
 // that little is lost. Which unit is free.
 ghost use mathlib.Core.Path.{_≡_};
 ghost use mathlib.Core.Bool.{true};
@@ -7,17 +7,15 @@ ghost use lib.IntN.{pos, natAbs, _+ℤ_, _*ℤ_};
 ghost use Rattle.ring.specs.RootTwo.Sized.{Sized};
 ghost use Rattle.region.specs.Region.{accepted};
 ghost use Rattle.region.specs.ReachOver.{Bounds};
-ghost use Rattle.region.specs.declared.Region.the-variants as R;
+ghost use Rattle.region.specs.Enclosure.{In-disk};
 ghost use Rattle.question.specs.Units.{Unit};
 ghost use Rattle.question.specs.Reach.{reachSize, Direction, Reaches};
-ghost use Rattle.question.specs.Slice.{Near, Either};
+ghost use Rattle.question.specs.Sharp.{Near, Either};
 use crate::reach::near_root;
-use crate::reach::over_ellipse;
 use crate::units;
 use lengths::near;
 use line::row::nonneg;
 use region::Region;
-use region::Slice;
 use ring::RootTwo;
 use ring::exact::combined;
 use ring::exact::conjugate;
@@ -46,7 +44,7 @@ fn is_near(f: RootTwo, x: i64) -> bool
     }
 }
 
-// How many times a direction can be made longer by 3 + 2√2, where its greater part is about m and the slice's scale n.
+// How many times a direction can be made longer by 3 + 2√2, where its greater part is about m and the disk's radius n.
 fn steps(n: u16, m: u64) -> u64 {
     let a = near::product(n as u64, m);
     if (a <= 30) & (m <= 13) {
@@ -58,13 +56,12 @@ fn steps(n: u16, m: u64) -> u64 {
     if (a <= 34000) & (m <= 470) { 2 } else { 1 }
 }
 
-// The slice's bound in a whole direction.
-fn whole(s: Slice, u: i64, v: i64) -> i64
-    requires { ⌜ (accepted (R.Slice s) ≡ true) × (natAbs u ≤ 16000) × (natAbs v ≤ 16000) ⌝ }
-    ensures { λ r. ⌜ Bounds (R.Slice s) u v r ⌝ }
+// The bound in a whole direction.
+fn whole(region: Region, u: i64, v: i64) -> i64
+    requires { ⌜ (accepted region ≡ true) × (natAbs u ≤ 16000) × (natAbs v ≤ 16000) ⌝ }
+    ensures { λ r. ⌜ Bounds region u v r ⌝ }
 {
-    let r = Region::Slice(s);
-    r.bound(u as i16, v as i16)
+    region.bound(u as i16, v as i16)
 }
 
 // b + 2n.
@@ -97,9 +94,9 @@ fn lesser(d: RootTwo, c: RootTwo) -> RootTwo
 }
 
 // What the whole direction near e·(u, v) says of (u, v), where that is less than d.
-fn sharp(s: Slice, u: RootTwo, v: RootTwo, e: RootTwo, d: RootTwo) -> RootTwo
-    requires { ⌜ (accepted (R.Slice s) ≡ true) × Direction u v × Unit e × Reaches (R.Slice s) u v d ⌝ }
-    ensures { λ h. ⌜ Reaches (R.Slice s) u v h ⌝ }
+fn sharp(region: Region, n: u16, u: RootTwo, v: RootTwo, e: RootTwo, d: RootTwo) -> RootTwo
+    requires { ⌜ (accepted region ≡ true) × Direction u v × Unit e × Reaches region u v d × In-disk region n ⌝ }
+    ensures { λ h. ⌜ Reaches region u v h ⌝ }
 {
     let f = product(e, u);
     let g = product(e, v);
@@ -111,15 +108,15 @@ fn sharp(s: Slice, u: RootTwo, v: RootTwo, e: RootTwo, d: RootTwo) -> RootTwo
     if !is_near(g, y) {
         return d;
     }
-    let t = beyond(whole(s, x, y), s.n);
+    let t = beyond(whole(region, x, y), n);
     lesser(d, combined(t, conjugate(e), 0, e))
 }
 
-pub(crate) fn over_slice(s: Slice, u: RootTwo, v: RootTwo) -> RootTwo
-    requires { ⌜ (accepted (R.Slice s) ≡ true) × Direction u v ⌝ }
-    ensures { λ h. ⌜ Reaches (R.Slice s) u v h ⌝ }
+// d, or what a whole direction says, where that is less.
+pub(crate) fn sharpened(region: Region, n: u16, u: RootTwo, v: RootTwo, d: RootTwo) -> RootTwo
+    requires { ⌜ (accepted region ≡ true) × Direction u v × Reaches region u v d × In-disk region n ⌝ }
+    ensures { λ h. ⌜ Reaches region u v h ⌝ }
 {
-    let d = over_ellipse(s.disk(), u, v);
     let m = near::greater(integers::abs(rounded(u)), integers::abs(rounded(v)));
-    sharp(s, u, v, units::unit(steps(s.n, m)), d)
+    sharp(region, n, u, v, units::unit(steps(n, m)), d)
 }

@@ -7,8 +7,8 @@ use mir.Val.{SFits, toZ, ofZ}
 use mir.Facts.{toZ-ofZ}
 use Rattle.integers.specs.Size.{size-+, size→fits, back}
 use Rattle.ring.specs.declared.RootTwo.{RootTwo}
-use Rattle.question.proofs.slice.rounded.Statement.{statement}
-use Rattle.question.proofs.slice.rounded.Tie as tie
+use Rattle.question.proofs.sharp.rounded.Statement.{statement}
+use Rattle.question.proofs.sharp.rounded.Tie as tie
 
 near-root-requires : tie.Need-near-root-requires
 near-root-requires c κs =

@@ -1,7 +1,6 @@
 use mathlib.Core.Path.{refl}
 use mathlib.Core.Logic.{inl, inr}
 use native.Mathlib.Omega.{arith}
-use lib.IntN.{_-ℤ_}
 use mir.Syntax.{w64}
 use mir.Val.{SFits}
 use mir.Facts.{toZ-ofZ}
@@ -11,8 +10,8 @@ use Rattle.integers.specs.Size.{size--, size→fits}
 use Rattle.ring.specs.declared.RootTwo.{RootTwo}
 use Rattle.ring.specs.RootTwo.Sized.{Sized}
 use Rattle.question.specs.Reach.{reachSize}
-use Rattle.question.proofs.slice.lesser.Statement.{statement}
-use Rattle.question.proofs.slice.lesser.Tie as tie
+use Rattle.question.proofs.sharp.lesser.Statement.{statement}
+use Rattle.question.proofs.sharp.lesser.Tie as tie
 
 is-small-requires : tie.Need-is-small-requires
 is-small-requires c κs = search needs

@@ -9,10 +9,9 @@ use borrow.Author.Tests.{not-false}
 use Rattle.integers.specs.Size.{back}
 use Rattle.ring.specs.declared.RootTwo.{RootTwo}
 use Rattle.ring.specs.RootTwo.Sized.{Sized, room, products, product-size, conj-size}
-use Rattle.region.specs.Accepted.{Slice-limits, slice-limits}
-use Rattle.question.specs.Slice.{Near, Either, slice-reaches}
-use Rattle.question.proofs.slice.sharp.Statement.{statement}
-use Rattle.question.proofs.slice.sharp.Tie as tie
+use Rattle.question.specs.Sharp.{Near, Either, sharp-reaches}
+use Rattle.question.proofs.sharp.sharp.Statement.{statement}
+use Rattle.question.proofs.sharp.sharp.Tie as tie
 
 product-requires : tie.Need-product-requires
 product-requires c κs = products _ _ (2 ^ 17) 200 (c .pre .2 .size) (c .pre .1 .first) (omega arith)
@@ -70,14 +69,11 @@ module _ (c : tie.Else2) where
   second : Near (p .product2 .result) (r .rounded2 .result)
   second = rw (y-is r) at (c .before .is-near2 .ensures (not-false _ (c .if2 .left)))
 
-  limits : Slice-limits (s p .args .s)
-  limits = slice-limits (s p .args .s) (s p .pre .0)
-
 whole-requires : tie.Need-whole-requires
 whole-requires c κs = (s (p c) .pre .0, rw (x-is (r c)) (first c .size), rw (y-is (r c)) (second c .size))
 
 beyond-requires : tie.Need-beyond-requires
-beyond-requires c κs = (rw (back w64 (c .whole .ok)) (c .whole .ensures .size), limits (c .before) .n-high)
+beyond-requires c κs = (rw (back w64 (c .whole .ok)) (c .whole .ensures .size), s (p (c .before)) .pre .4 .small)
 
 conjugate-requires : tie.Need-conjugate-requires
 conjugate-requires c κs = search needs
@@ -106,8 +102,8 @@ returns-3 c =
     let o = rw (x-is (r k), y-is (r k)) at (w .whole .ensures .over) in
     let t = rw (back w64 (w .whole .ok)) at (b .beyond .ensures .0) in
     let e = rw (back w64 (b .beyond .ok), j .conjugate .ensures) at (m .combined .ensures) in
-    slice-reaches (i .args .s) (i .args .u) (i .args .v) (i .args .e) (q .before .product .result) (q .product2 .result) (i .args .d) (c .lesser .result) x y (w .whole .result) (b .beyond .result)
-    (limits k .n-high) (i .pre .2 .even) (q .before .product .ensures) (q .product2 .ensures) (first k) (second k) o t (i .pre .3)
+    sharp-reaches (i .args .region) (i .args .n) (i .args .u) (i .args .v) (i .args .e) (q .before .product .result) (q .product2 .result) (i .args .d) (c .lesser .result) x y (w .whole .result) (b .beyond .result)
+    (i .pre .4) (i .pre .2 .even) (q .before .product .ensures) (q .product2 .ensures) (first k) (second k) o t (i .pre .3)
     (subst (λ (z : RootTwo). Either (i .args .d) z (c .lesser .result)) e (c .lesser .ensures))
 
 pub sharp-spec : {M : Type 1} → statement M
