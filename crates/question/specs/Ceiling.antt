@@ -2,7 +2,7 @@
 use mathlib.Core.Path.{_≡_, refl}
 use mathlib.Core.Bool.{true}
 use mathlib.Core.List.{[], _∷_}
-use Prim.Native.Nat.{ℕ, _+_, _*_, _≤_, zero-le}
+use Prim.Native.Nat.{ℕ, _+_, _*_, zero-le}
 use native.Mathlib.Nat.{le-refl}
 use lib.Dec.{le→leb}
 use lib.IntN.{ℤ, pos, natAbs, _+ℤ_, _-ℤ_, _*ℤ_}
@@ -11,8 +11,8 @@ use Rattle.integers.specs.Order.{≼→nn}
 use Rattle.ring.specs.declared.RootTwo.{RootTwo}
 use Rattle.ring.specs.RootTwo.{_⊞_, _⊟_, _⊠_, num, √2, parts, by-parts, poly√}
 use Rattle.ring.specs.RootTwo.Order.{nonneg, Nn, _⊑_, nn-by, nn-+, nn-*, nn-num, nn-√2, one⊑√2, num-⊑, ⊑-trans}
+use Rattle.rows.specs.Row.{at}
 use Rattle.region.specs.Accepted.{size-≼}
-use Rattle.line.specs.Row.{at}
 
 -- a guess t that passes the test
 pub by-guess : (x : RootTwo) (t : ℤ) → nonneg (at (t -ℤ x .p) (pos 0 -ℤ x .q)) ≡ true → x ⊑ num (pos (natAbs t))

@@ -18,13 +18,13 @@ use Rattle.ring.specs.RootTwo.Order.{Nn, nn-by, nn-cancel, one⊑√2}
 use Rattle.ring.specs.RootTwo.Power.{√2^, √2^-suc, √2^-nn, power-even, power-odd, turn, turn-zero, turn-suc, turn-two}
 use Rattle.ring.specs.Point.{√2x, √2y, conjω, √2x-conj, √2y-conj}
 use Rattle.ring.specs.RootTwo.Sized.{Sized, product-sizes, product-sized, neg-size}
+use Rattle.rows.specs.declared.Strip.{Strip}
+use Rattle.rows.specs.Row.{above, below}
 use Rattle.region.specs.declared.Region.{Region}
 use Rattle.region.specs.declared.Job.{Job}
 use Rattle.region.specs.Region.{topScale, holds, solves}
 use Rattle.region.specs.Membership.{solves-true}
 use Rattle.region.specs.Over.{scale}
-use Rattle.line.specs.declared.row.Strip.{Strip}
-use Rattle.line.specs.Row.{above, below}
 use Rattle.question.specs.declared.strips.Strips.{Strips}
 use Rattle.question.specs.Reach.{reachSize, Reaches}
 

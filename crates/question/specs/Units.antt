@@ -7,10 +7,10 @@ use lib.IntN.{pos}
 use Rattle.ring.specs.declared.RootTwo.{RootTwo}
 use Rattle.ring.specs.RootTwo.{_⊠_, conj, parts, by-parts, poly√}
 use Rattle.ring.specs.RootTwo.Sized.{Sized, conj-size}
-use Rattle.line.specs.declared.row.Strip.{Strip}
-use Rattle.line.specs.Row.{at}
-use Rattle.line.specs.Both.{both-true}
-use Rattle.line.specs.Steps.{solved, timesOf, undo, Even, even-unit, even-conj, scale-even}
+use Rattle.rows.specs.declared.Strip.{Strip}
+use Rattle.rows.specs.Row.{at}
+use Rattle.rows.specs.Both.{both-true}
+use Rattle.rows.specs.Steps.{solved, timesOf, undo, Even, even-unit, even-conj, scale-even}
 use Rattle.question.specs.declared.strips.Strips.{Strips}
 use Rattle.question.specs.declared.lines.Line.{Line}
 use Rattle.question.specs.Strips.{Meets}

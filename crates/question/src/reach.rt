@@ -10,23 +10,19 @@ ghost use Rattle.region.specs.Region.{accepted};
 ghost use Rattle.region.specs.declared.Region.the-variants as R;
 ghost use Rattle.question.specs.Reach.{Direction, farEnd, widthOf, Half-width, Reaches};
 use crate::slice;
-use line::row::nonneg;
 use region::Ellipse;
 use region::Rectangle;
 use region::Region;
 use ring::RootTwo;
 use ring::exact::combined;
+use ring::exact::is_nonneg;
 use ring::exact::product;
 
 // The end of lo..hi at which u·z is greatest.
 fn far_end(u: RootTwo, lo: i32, hi: i32) -> i64
     ensures { λ r. ⌜ r ≡ farEnd (nonneg u) lo hi ⌝ }
 {
-    if nonneg(u.p, u.q) {
-        hi as i64
-    } else {
-        lo as i64
-    }
+    if is_nonneg(u) { hi as i64 } else { lo as i64 }
 }
 
 fn over_rectangle(r: Rectangle, u: RootTwo, v: RootTwo) -> RootTwo
@@ -51,7 +47,10 @@ fn ceiling(x: RootTwo) -> u64
     ensures { λ r. ⌜ (r ≤ 2 ^ 29) × (x ⊑ num (pos r)) ⌝ }
 {
     let t = x.p + near_root(x.q);
-    if nonneg(t - x.p, -x.q) {
+    if is_nonneg(RootTwo {
+        p: t - x.p,
+        q: -x.q,
+    }) {
         integers::abs(t)
     } else {
         integers::abs(x.p) + 2 * integers::abs(x.q)

@@ -15,12 +15,12 @@ use crate::reach::near_root;
 use crate::reach::over_ellipse;
 use crate::units;
 use cuts::near;
-use line::row::nonneg;
 use region::Region;
 use region::Slice;
 use ring::RootTwo;
 use ring::exact::combined;
 use ring::exact::conjugate;
+use ring::exact::is_nonneg;
 use ring::exact::product;
 
 // A whole number near x.
@@ -39,8 +39,14 @@ fn is_near(f: RootTwo, x: i64) -> bool
     if 16000 < integers::abs(x) {
         return false;
     }
-    if nonneg(f.p + 1 - x, f.q) {
-        nonneg(x + 1 - f.p, -f.q)
+    if is_nonneg(RootTwo {
+        p: f.p + 1 - x,
+        q: f.q,
+    }) {
+        is_nonneg(RootTwo {
+            p: x + 1 - f.p,
+            q: -f.q,
+        })
     } else {
         false
     }
@@ -93,7 +99,11 @@ fn lesser(d: RootTwo, c: RootTwo) -> RootTwo
     if !is_small(c) {
         return d;
     }
-    if nonneg(d.p - c.p, d.q - c.q) { c } else { d }
+    if is_nonneg(combined(1, d, -1, c)) {
+        c
+    } else {
+        d
+    }
 }
 
 // What the whole direction near e·(u, v) says of (u, v), where that is less than d.

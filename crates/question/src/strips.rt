@@ -9,7 +9,6 @@ ghost use Rattle.region.specs.Region.{topScale, accepted, acceptedJob};
 ghost use Rattle.question.specs.Reach.{Short, Direction};
 ghost use Rattle.question.specs.Strips.{endSize, Ends, Strip-of, Strips-of};
 use crate::reach::over;
-use line::row::Strip;
 use region::Job;
 use region::Region;
 use ring::RootTwo;
@@ -17,6 +16,7 @@ use ring::exact::conjugate;
 use ring::exact::opposite;
 use ring::exact::power;
 use ring::exact::product;
+use rows::Strip;
 
 // The strips of ζ and of its conjugate.
 pub(crate) struct Strips {

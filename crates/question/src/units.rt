@@ -1,18 +1,17 @@
 // Units of Z[√2] that balance two strips: multiplication by (3 + 2√2)^n widens the one and narrows the other, so that rows are few.
 ghost use mathlib.Core.Path.{_≡_};
 ghost use mathlib.Core.Bool.{true};
-ghost use Prim.Native.Nat.{_^_};
 ghost use Rattle.ring.specs.RootTwo.Sized.{Sized};
-ghost use Rattle.line.specs.Steps.{timesOf};
+ghost use Rattle.rows.specs.Steps.{timesOf};
 ghost use Rattle.question.specs.Strips.{endSize, Ends};
 ghost use Rattle.question.specs.Units.{Unit, scaledOf};
 use crate::reach::near_root;
 use crate::strips::Strips;
-use line::row::Strip;
 use ring::RootTwo;
 use ring::exact::combined;
 use ring::exact::conjugate;
 use ring::exact::product;
+use rows::Strip;
 
 // The greatest part of an end.
 const LARGEST: u64 = 137438953472;

@@ -6,8 +6,8 @@ use mir.Syntax.{w64}
 use mir.Val.{SFits}
 use mir.Facts.{toZ-ofZ}
 use Rattle.integers.specs.Size.{size-*≤, size→fits}
-use Rattle.line.specs.declared.row.Strip.{Strip}
 use Rattle.ring.specs.RootTwo.Sized.{room}
+use Rattle.rows.specs.declared.Strip.{Strip}
 use Rattle.question.specs.Strips.{endSize, strip-ext}
 use Rattle.question.proofs.lines.joined.Statement.{statement}
 use Rattle.question.proofs.lines.joined.Tie as tie

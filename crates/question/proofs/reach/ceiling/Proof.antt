@@ -10,7 +10,7 @@ use Rattle.integers.specs.Size.{size-+, size--, size→fits, back}
 use Rattle.ring.specs.declared.RootTwo.{RootTwo}
 use Rattle.ring.specs.RootTwo.{num}
 use Rattle.ring.specs.RootTwo.Order.{nonneg, _⊑_}
-use Rattle.line.specs.Row.{at}
+use Rattle.rows.specs.Row.{at}
 use Rattle.question.specs.Ceiling.{by-guess, surely}
 use Rattle.question.proofs.reach.ceiling.Statement.{statement}
 use Rattle.question.proofs.reach.ceiling.Tie as tie
@@ -61,14 +61,14 @@ module _ (c : tie.After-near-root) where
 add-t : tie.Need-add-t
 add-t c = let d = c .before .before in simp (toZ-ofZ (xp d), r-is d) (t-fits d)
 
-sub-nonneg : tie.Need-sub-nonneg
-sub-nonneg c = let d = c .before .before .before .before in simp (toZ-ofZ (xp d), r-is d, toZ-ofZ (t-fits d)) (less d)
+sub-t3 : tie.Need-sub-t3
+sub-t3 c = let d = c .before .before .before .before in simp (toZ-ofZ (xp d), r-is d, toZ-ofZ (t-fits d)) (less d)
 
-sub-nonneg-2 : tie.Need-sub-nonneg-2
-sub-nonneg-2 c = let d = c .before .before .before .before .before .before in simp (toZ-ofZ (xq d)) (turned d)
+sub-t5 : tie.Need-sub-t5
+sub-t5 c = let d = c .before .before .before .before .before .before in simp (toZ-ofZ (xq d)) (turned d)
 
-nonneg-requires : tie.Need-nonneg-requires
-nonneg-requires c κs = search needs
+is-nonneg-requires : tie.Need-is-nonneg-requires
+is-nonneg-requires c κs = search needs
 
 abs-requires : tie.Need-abs-requires
 abs-requires c κs = search needs
@@ -79,10 +79,10 @@ abs-requires-2 c κs = search needs
 abs-requires-3 : tie.Need-abs-requires-3
 abs-requires-3 c κs = search needs
 
-tested : (c : tie.After-nonneg) → let d = c .before .before .before .before .before .before .before in c .nonneg .result ≡ nonneg (at (t d -ℤ x d .p) (pos 0 -ℤ x d .q))
+tested : (c : tie.After-is-nonneg) → let d = c .before .before .before .before .before .before .before in c .is-nonneg .result ≡ nonneg (at (t d -ℤ x d .p) (pos 0 -ℤ x d .q))
 tested c =
     let d = c .before .before .before .before .before .before .before in
-    simp (toZ-ofZ (xp d), toZ-ofZ (xq d), r-is d, toZ-ofZ (t-fits d), toZ-ofZ (less d), toZ-ofZ (turned d)) at (c .nonneg .ensures)
+    simp (toZ-ofZ (xp d), toZ-ofZ (xq d), r-is d, toZ-ofZ (t-fits d), toZ-ofZ (less d), toZ-ofZ (turned d)) at (c .is-nonneg .ensures)
 
 returns : tie.Need-returns
 returns c =
@@ -118,9 +118,9 @@ ceiling-spec =
     (tie.spec
     near-root-requires
     add-t
-    sub-nonneg
-    sub-nonneg-2
-    nonneg-requires
+    sub-t3
+    sub-t5
+    is-nonneg-requires
     abs-requires
     abs-requires-2
     abs-requires-3

@@ -3,7 +3,6 @@ use native.Mathlib.Omega.{arith}
 use mir.Syntax.{w16, w64}
 use mir.Val.{SFits, toZ, ofZ}
 use mir.Facts.{toZ-ofZ}
-use borrow.Author.Needs.{needs}
 use Rattle.integers.specs.Size.{size→fits, back}
 use Rattle.question.proofs.slice.whole.Statement.{statement}
 use Rattle.question.proofs.slice.whole.Tie as tie

@@ -1,4 +1,4 @@
-use mathlib.Core.Path.{subst, subst₂}
+use mathlib.Core.Path.{subst₂}
 use Rattle.region.specs.Around.{accepted-job-parts}
 use Rattle.question.specs.Strips.{Strip-of, strips-of}
 use Rattle.question.proofs.strips.of_job.Statement.{statement}

@@ -1,9 +1,9 @@
 use mathlib.Core.Path.{sym, _∙_, ap, ap₂, subst}
 use Prim.Native.Nat.{_^_}
 use native.Mathlib.Omega.{arith}
-use Rattle.line.specs.declared.row.Strip.{Strip}
-use Rattle.line.specs.Steps.{timesOf}
 use Rattle.ring.specs.RootTwo.Sized.{sized-more}
+use Rattle.rows.specs.declared.Strip.{Strip}
+use Rattle.rows.specs.Steps.{timesOf}
 use Rattle.question.specs.Units.{Unit, unit-conj}
 use Rattle.question.proofs.units.scaled.Statement.{statement}
 use Rattle.question.proofs.units.scaled.Tie as tie

@@ -1,5 +1,5 @@
 use native.Mathlib.Omega.{arith}
-use Rattle.line.specs.Steps.{even-power}
+use Rattle.rows.specs.Steps.{even-power}
 use Rattle.question.proofs.units.unit.Statement.{statement}
 use Rattle.question.proofs.units.unit.Tie as tie
 
