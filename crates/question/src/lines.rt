@@ -6,17 +6,17 @@ ghost use Rattle.ring.specs.RootTwo.{_⊟_, _⊠_};
 ghost use Rattle.ring.specs.RootTwo.Order.{nonneg};
 ghost use Rattle.ring.specs.RootTwo.Sized.{Sized};
 ghost use Rattle.rows.specs.Row.{coordinate, lower, upper, Least};
-ghost use Rattle.question.specs.Strips.{Ends};
+ghost use Rattle.strips.specs.Strips.{Ends};
 ghost use Rattle.question.specs.Rows.{middle, top, pairAt, joinedOf};
 ghost use Rattle.question.specs.Lines.{Searchable, Pairless, rowless, Line-with, Line-of};
-use crate::strips::Strips;
-use crate::units;
 use ring::RootTwo;
 use ring::exact::combined;
 use ring::exact::conjugate;
 use ring::exact::is_nonneg;
 use ring::exact::product;
 use rows::Strip;
+use strips::Strips;
+use strips::units;
 
 // The digit of 0, and the number of digits.
 pub(crate) const HALF: u64 = 549755813888;
