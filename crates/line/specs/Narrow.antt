@@ -1,24 +1,23 @@
 -- The shifted and scaled problem where the second strip is at most 1 wide and, scaled, at most 2 wide: of two pairs the one with the smaller a has the smaller a',
 -- or the same a' and the smaller b'. So the scaled pairs, taken by a' and then b' as in the Note, rise in a.
 use mathlib.Core.Path.{_≡_, refl, sym, _∙_, ap, ap₂, subst}
-use mathlib.Core.Bool.{Bool, true, false}
+use mathlib.Core.Bool.{true}
 use mathlib.Core.Logic.{_⊎_, inl, inr}
 use mathlib.Core.List.{[], _∷_}
-use Prim.Native.Nat.{ℕ}
 use native.Mathlib.Omega.{arith}
-use lib.IntN.{ℤ, pos, negsuc, negℤ, _+ℤ_, _-ℤ_, _*ℤ_}
+use lib.IntN.{ℤ, pos, negsuc, negℤ, _-ℤ_, _*ℤ_}
 use Rattle.integers.specs.Difference.{by⊖, zz, _≼_, _≺_}
 use Rattle.integers.specs.Order.{≼-trans}
 use Rattle.integers.specs.Ring.{poly, by-ring}
 use Rattle.integers.specs.RingZ.{polyZ}
 use Rattle.integers.specs.RingZ as Z
 use Rattle.ring.specs.declared.RootTwo.{RootTwo}
-use Rattle.ring.specs.RootTwo.{_⊞_, _⊟_, _⊠_, neg, conj, num, √2, ring√, ext, parts, sum-parts, neg-parts, num-parts, num-*, conj-⊠}
+use Rattle.ring.specs.RootTwo.{_⊞_, _⊟_, _⊠_, neg, conj, num, √2, ring√, ext, parts, sum-parts, neg-parts, num-parts, num-*}
 use Rattle.ring.specs.RootTwo.Order.{Nn, nn-by, nn-+, nn-*, nn-num, nn-√2, nn-cancel, nn-zero, num-⊑}
-use Rattle.line.specs.declared.row.Strip.{Strip}
-use Rattle.line.specs.Row.{at, above, below}
-use Rattle.line.specs.Both.{both-true}
-use Rattle.line.specs.Steps.{solved, shiftOf, timesOf, conj-⊟, undo, inverse-sym, Even, even-unit, shift-holds, scale-even}
+use Rattle.rows.specs.declared.Strip.{Strip}
+use Rattle.rows.specs.Row.{at, above, below}
+use Rattle.rows.specs.Both.{both-true}
+use Rattle.rows.specs.Steps.{solved, shiftOf, timesOf, conj-⊟, undo, inverse-sym, Even, even-unit, shift-holds, scale-even}
 
 -- ---- both steps: α₀, then u
 abbrev pub image : RootTwo → RootTwo → RootTwo → RootTwo

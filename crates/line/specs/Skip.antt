@@ -9,16 +9,17 @@ use Rattle.integers.specs.Size.{size--, size-*≤}
 use Rattle.ring.specs.declared.RootTwo.{RootTwo}
 use Rattle.ring.specs.RootTwo.{conj, conj-parts}
 use Rattle.ring.specs.RootTwo.Sized.{conj-size, less-size, product-size}
+use Rattle.ring.specs.Short.{both}
+use Rattle.rows.specs.declared.Strip.{Strip}
+use Rattle.rows.specs.Row.{at, above, below, coordinate-mono}
+use Rattle.rows.specs.Both.{is-false, both-true, both-of}
+use Rattle.rows.specs.Steps.{solved, shiftOf, Even}
 use Rattle.line.specs.declared.Interval.{Interval}
-use Rattle.line.specs.declared.row.Strip.{Strip}
-use Rattle.line.specs.Line.{both, bound, span, coordinate, accepted, inRange, solves, holds}
-use Rattle.line.specs.Row.{at, above, below, coordinate-mono}
-use Rattle.line.specs.Both.{is-false, both-true, both-of}
+use Rattle.line.specs.Line.{bound, span, coordinate, accepted, inRange, solves, holds}
 use Rattle.line.specs.Strips.{stripOf, solves-row, Ranged, both-ranged, size-within}
 use Rattle.line.specs.Ends.{lo-divided, hi-divided}
 use Rattle.line.specs.Bounds.{solution-within, solution-row, lastRow}
 use Rattle.line.specs.Full.{digit, coordinate-≺}
-use Rattle.line.specs.Steps.{solved, shiftOf, Even}
 use Rattle.line.specs.Narrow.{Wide, NotBefore, image, origin, firstOf, secondOf, rowsOf, steps-hold, image-origin, origin-image, rises, row-from, row-to}
 use Rattle.line.specs.Sized.{Sized, Ends, whole, shifted, scaled, rowEnd, unitSize, shift-ends, times-ends, end-size, coordinate-size}
 use Rattle.line.specs.Walk.{Ready, Passed, Skips, solved-row}

@@ -1,26 +1,26 @@
 -- The walk through the scaled pairs, by a' and then b': it passes over no pair with a from a given one on, and the first that it meets has the least such a.
-use mathlib.Core.Path.{_≡_, refl, sym, _∙_, ap, ap₂, subst}
-use mathlib.Core.Bool.{Bool, true, false, false≢true}
-use mathlib.Core.Logic.{_⊎_, inl, inr}
-use Prim.Native.Nat.{ℕ, zero, suc, _+_, _-_, _^_, _≤_, _<_, zero-le}
+use mathlib.Core.Path.{_≡_, sym, _∙_, ap, subst}
+use mathlib.Core.Bool.{true, false, false≢true}
+use mathlib.Core.Logic.{inl, inr}
+use Prim.Native.Nat.{ℕ, _+_, _-_, _^_, _≤_, _<_, zero-le}
 use native.Mathlib.Decide.{decLt}
 use native.Mathlib.Omega.{arith}
-use lib.Dec.{le→leb, lt→ltb, ltb→lt}
-use lib.IntN.{ℤ, pos, negsuc, negℤ, natAbs, _-ℤ_}
-use Rattle.integers.specs.Difference.{by⊖, zz, _≼_, _≺_, up, dn, +-spec, neg-up, neg-dn}
-use Rattle.integers.specs.Difference as D
+use lib.Dec.{le→leb, lt→ltb}
+use lib.IntN.{ℤ, pos, negℤ, natAbs, _-ℤ_}
+use Rattle.integers.specs.Difference.{by⊖, zz, _≼_, _≺_}
 use Rattle.integers.specs.Order.{≼-trans, ≺→≼, ≺-irrefl}
 use Rattle.ring.specs.declared.RootTwo.{RootTwo}
-use Rattle.ring.specs.RootTwo.{conj, num, ext, num-parts}
-use Rattle.ring.specs.RootTwo.Order.{_⊑_, num-⊑}
+use Rattle.ring.specs.RootTwo.{conj, ext}
+use Rattle.ring.specs.Short.{both}
+use Rattle.rows.specs.declared.Strip.{Strip}
+use Rattle.rows.specs.Row.{at, coordinate, coordinate-mono, above, below, below-anti, whole-⊑, lower, upper, Near, First, Digit, digit-of}
+use Rattle.rows.specs.Row as Row
+use Rattle.rows.specs.Both.{regroup}
+use Rattle.rows.specs.Steps.{solved, Even}
 use Rattle.line.specs.declared.Interval.{Interval}
-use Rattle.line.specs.declared.row.Strip.{Strip}
-use Rattle.line.specs.Line.{both, bound, span, solves}
+use Rattle.line.specs.Line.{bound, span, solves}
 use Rattle.line.specs.Line as Line
-use Rattle.line.specs.Row.{at, coordinate, coordinate-mono, above, below, below-anti, lower, upper, Near, Least}
-use Rattle.line.specs.Both.{regroup}
 use Rattle.line.specs.Past.{pastOf, from-past, at-past}
-use Rattle.line.specs.Steps.{solved, Even}
 use Rattle.line.specs.Narrow.{NotBefore, origin}
 use Rattle.line.specs.Sized.{Sized, Ends, whole, scaled, rowEnd, unitSize, small}
 
@@ -32,26 +32,7 @@ abbrev pub top : ℕ
 top = 2 ^ 33
 
 abbrev pub pairAt : ℕ → ℕ → RootTwo
-pairAt x y = at (coordinate middle x) (coordinate middle y)
-
-pub record Digit (z : ℤ) : Type 0 where
-  pub digit : ℕ
-  pub inside : digit < top
-  pub stands : coordinate middle digit ≡ z
-
-pub digit-of : (z : ℤ) → natAbs z < middle → Digit z
-digit-of z h = record { digit = middle + up z - dn z; inside = bounded z h; stands = D.ext _ z (go z h) }
-  where
-    bounded : (z : ℤ) → natAbs z < middle → middle + up z - dn z < top
-    bounded (pos n) h = omega arith
-    bounded (negsuc n) h = omega arith
-
-    less : (t : ℕ) → up (coordinate middle t) + middle ≡ t + dn (coordinate middle t)
-    less t = omega (arith, +-spec (pos t) (negℤ (pos middle)), neg-up (pos middle), neg-dn (pos middle))
-
-    go : (z : ℤ) → natAbs z < middle → up (coordinate middle (middle + up z - dn z)) + dn z ≡ up z + dn (coordinate middle (middle + up z - dn z))
-    go (pos n) h = omega (arith, less (middle + n - 0))
-    go (negsuc n) h = omega (arith, less (middle + 0 - suc n))
+pairAt = Row.pairAt middle
 
 digit-≺ : (x y : ℕ) → x < y → coordinate middle x ≺ coordinate middle y
 digit-≺ x y h = go (pos x) (pos y) (pos middle) (record { lt = lt→ltb x y h })
@@ -76,9 +57,6 @@ digit-≺ x y h = go (pos x) (pos y) (pos middle) (record { lt = lt→ltb x y h 
 -- ---- rows
 pub solved-row : (s t : Strip) (a b : ℤ) → solved s t (at a b) ≡ both (lower s t a b) (upper s t a b)
 solved-row s t a b = regroup (above s (at a b)) (below s (at a b)) (above t (conj (at a b))) (below t (conj (at a b)))
-
-abbrev pub First : Strip → ℕ → Type 0
-First w r = Least (λ (t : ℕ). above w (at (coordinate middle t) (pos 0))) 0 top r
 
 pub near : (s t : Strip) (x y : ℕ) → Ends scaled s → Ends scaled t → x ≤ top → y ≤ top → Near s t middle x y
 near s t x y e f h k = record { first = small scaled s (omega arith) e; second = small scaled t (omega arith) f; middle = omega arith; row = omega arith; column = omega arith }
@@ -120,11 +98,11 @@ abbrev pub Ahead : Strip → Strip → RootTwo → RootTwo → ℕ → ℕ → �
 Ahead f g o u a x y = (z : RootTwo) → solved f g z ≡ true → Line.coordinate a ≼ origin o u z .p → NotBefore (pairAt x y) z
 
 module _ (f g w : Strip) (o u : RootTwo) (a : ℕ) (ready : Ready f g w o u a) where
-  from-row : (z : RootTwo) → solved f g z ≡ true → (x : ℕ) (d : Digit (z .p)) → x ≤ d .digit → NotBefore (pairAt x 0) z
+  from-row : (z : RootTwo) → solved f g z ≡ true → (x : ℕ) (d : Digit middle (z .p)) → x ≤ d .digit → NotBefore (pairAt x 0) z
   from-row z hz x d l = go (decLt x (d .digit))
     where
-      e : Digit (z .q)
-      e = digit-of (z .q) (ready .size z hz .1)
+      e : Digit middle (z .q)
+      e = digit-of middle (z .q) (ready .size z hz .1)
 
       go : Dec (x < d .digit) → NotBefore (pairAt x 0) z
       go (yes h) = inl (subst (λ k. coordinate middle x ≺ k) (d .stands) (digit-≺ x (d .digit) h))
@@ -132,13 +110,13 @@ module _ (f g w : Strip) (o u : RootTwo) (a : ℕ) (ready : Ready f g w o u a) w
           let same : x ≡ d .digit = omega arith in
           inr (ap (coordinate middle) same ∙ d .stands, subst (λ k. coordinate middle 0 ≼ k) (e .stands) (coordinate-mono middle 0 (e .digit) zero-le))
 
-  row-digit : (z : RootTwo) → solved f g z ≡ true → Digit (z .p)
-  row-digit z hz = digit-of (z .p) (ready .size z hz .0)
+  row-digit : (z : RootTwo) → solved f g z ≡ true → Digit middle (z .p)
+  row-digit z hz = digit-of middle (z .p) (ready .size z hz .0)
 
-  pub ahead-start : (r : ℕ) → First w r → Ahead f g o u a r 0
+  pub ahead-start : (r : ℕ) → First middle top w r → Ahead f g o u a r 0
   ahead-start r l z hz ha = from-row z hz r d (go (decLt (d .digit) r))
     where
-      d : Digit (z .p)
+      d : Digit middle (z .p)
       d = row-digit z hz
 
       go : Dec (d .digit < r) → r ≤ d .digit
@@ -147,7 +125,7 @@ module _ (f g w : Strip) (o u : RootTwo) (a : ℕ) (ready : Ready f g w o u a) w
 
   module _ (x y r : ℕ) (ahead : Ahead f g o u a x y) (l : InRow f g x y r) where
     -- a pair of the row from y on is at r or later
-    from-column : (z : RootTwo) → solved f g z ≡ true → coordinate middle x ≡ z .p → coordinate middle y ≼ z .q → (d : Digit (z .q)) → r ≤ d .digit
+    from-column : (z : RootTwo) → solved f g z ≡ true → coordinate middle x ≡ z .p → coordinate middle y ≼ z .q → (d : Digit middle (z .q)) → r ≤ d .digit
     from-column z hz e h d = go (decLt (d .digit) r)
       where
         go : Dec (d .digit < r) → r ≤ d .digit
@@ -156,8 +134,8 @@ module _ (f g w : Strip) (o u : RootTwo) (a : ℕ) (ready : Ready f g w o u a) w
             (sym (l .before (d .digit) (≼-digit y (d .digit) (subst (λ j. coordinate middle y ≼ j) (sym (d .stands)) h)) k) ∙ ap (solved f g) (ext e (d .stands)) ∙ hz))
         go (no k) = omega arith
 
-    column-digit : (z : RootTwo) → solved f g z ≡ true → Digit (z .q)
-    column-digit z hz = digit-of (z .q) (ready .size z hz .1)
+    column-digit : (z : RootTwo) → solved f g z ≡ true → Digit middle (z .q)
+    column-digit z hz = digit-of middle (z .q) (ready .size z hz .1)
 
     pub ahead-row : top ≤ r → Ahead f g o u a (x + 1) 0
     ahead-row h z hz ha = go (ahead z hz ha)
@@ -176,7 +154,7 @@ module _ (f g w : Strip) (o u : RootTwo) (a : ℕ) (ready : Ready f g w o u a) w
         go (inl k) = inl k
         go (inr k) = next (decLt r (d .digit))
           where
-            d : Digit (z .q)
+            d : Digit middle (z .q)
             d = column-digit z hz
 
             b : r ≤ d .digit
@@ -247,11 +225,8 @@ module _ (f g w : Strip) (o u : RootTwo) (a : ℕ) (ready : Ready f g w o u a) w
       within = omega arith;
       none = λ z hz ha _.
           false≢true (sym h
-          ∙ below-anti w (at (coordinate middle x) (pos 0)) (at (z .p) (pos 0)) (≼-trans (pos 0) (pos 1) (w .m) (record { le = tt }) (ready .rows .one)) (level (coordinate middle x) (z .p) (num-⊑ (row-≼ z hz ha))) (ready .from z hz ha .1));
+          ∙ below-anti w (at (coordinate middle x) (pos 0)) (at (z .p) (pos 0)) (≼-trans (pos 0) (pos 1) (w .m) (record { le = tt }) (ready .rows .one)) (whole-⊑ (coordinate middle x) (z .p) (row-≼ z hz ha)) (ready .from z hz ha .1));
     }
-      where
-        level : (a b : ℤ) → num a ⊑ num b → at a (pos 0) ⊑ at b (pos 0)
-        level a b h = rw (num-parts a, num-parts b) at h
 
 -- ---- in rows of the problem: no pair from the row a on lies before the row r
 pub record Skips (i j : Interval) (a r : ℕ) : Type 0 where

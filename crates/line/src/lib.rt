@@ -10,7 +10,6 @@ ghost use Rattle.line.specs.Next.{Near, Inside};
 ghost use Rattle.line.specs.Given.{Given};
 
 mod narrow;
-pub mod row;
 mod search;
 mod steps;
 

@@ -9,17 +9,16 @@ ghost use Rattle.line.specs.Line.{accepted, span};
 ghost use Rattle.line.specs.Line as line;
 ghost use Rattle.line.specs.Strips.{Ranged};
 ghost use Rattle.line.specs.Narrow.{rowsIn, origin};
-ghost use Rattle.line.specs.Sized.{Sized, Ends, whole, shifted, scaled, rowEnd, unitSize};
-ghost use Rattle.line.specs.Walk.{First, InRow, Ready, Passed, Skips, pairAt, top};
+ghost use Rattle.line.specs.Sized.{Sized, Ends, whole, shifted, scaled, unitSize};
+ghost use Rattle.line.specs.Walk.{InRow, Ready, Passed, Skips, pairAt, top};
 use crate::Interval;
-use crate::row;
 use crate::search;
 use crate::steps;
 use ring::RootTwo;
 use ring::exact::combined;
 use ring::exact::conjugate;
 use ring::exact::product;
-use row::Strip;
+use rows::Strip;
 
 // The digit of 0 in the scaled problem, and the number of digits.
 const HALF: u64 = 4294967296;
@@ -64,7 +63,7 @@ fn skip(first: Interval, second: Interval, a: u64) -> u64
         let f = steps::scale(y, u);
         let g = steps::scale(x, conjugate(u));
         if steps::is_within(g, 2) {
-            let w = rows(x, g, o, u, a, search::last_row(s, t));
+            let w = row_strip(x, g, o, u, a, search::last_row(s, t));
             return walk(f, g, w, o, u, a);
         }
     }
@@ -79,13 +78,13 @@ fn alpha0(s: Strip, t: Strip) -> RootTwo
     let f = search::floor(s.m, s.lo.p);
     let g = search::floor(t.m, t.lo.p);
     RootTwo {
-        p: row::coordinate(10000, (f + g) / 2),
-        q: row::coordinate(7071, (f + 20000 - g) * 70 / 198),
+        p: rows::coordinate(10000, (f + g) / 2),
+        q: rows::coordinate(7071, (f + 20000 - g) * 70 / 198),
     }
 }
 
 // Internal step 6, a_min and a_max: the strip of the rows a' of the pairs whose a has a digit from a to b.
-fn rows(t: Strip, g: Strip, o: RootTwo, u: RootTwo, a: u64, b: u64) -> Strip
+fn row_strip(t: Strip, g: Strip, o: RootTwo, u: RootTwo, a: u64, b: u64) -> Strip
     requires { ⌜ Ends shifted t × Ends scaled g × Sized whole o × Sized unitSize u × (a ≤ span) × (b ≤ span) ⌝ }
     ensures { λ r. ⌜ r ≡ rowsIn t g o u (line.coordinate a) (line.coordinate b) ⌝ }
 {
@@ -101,25 +100,7 @@ fn reach(m: i64, p: i64, t: u64) -> i64
     requires { ⌜ (natAbs m ≤ 200) × (natAbs p ≤ whole) × (t ≤ span) ⌝ }
     ensures { λ r. ⌜ (r ≡ pos 2 *ℤ m *ℤ (line.coordinate t -ℤ p)) × (natAbs r ≤ shifted) ⌝ }
 {
-    2 * m * (row::coordinate(10000, t) - p)
-}
-
-// Internal step 6, a_min: the first digit t with lo ≤ m·(t − 2^32), or TOP, by bisection.
-fn first(s: Strip) -> u64
-    requires { ⌜ Ends rowEnd s ⌝ }
-    ensures { λ r. ⌜ First s r ⌝ }
-{
-    let mut lo = 0;
-    let mut hi = TOP;
-    while lo < hi {
-        let mid = lo + (hi - lo) / 2;
-        if row::above(s, row::coordinate(HALF, mid), 0) {
-            hi = mid;
-        } else {
-            lo = mid + 1;
-        }
-    }
-    hi
+    2 * m * (rows::coordinate(10000, t) - p)
 }
 
 // Internal steps 6 and 7, by a' and then b': the row of the first pair from the row a on, or the number of rows.
@@ -127,16 +108,22 @@ fn walk(f: Strip, g: Strip, w: Strip, o: RootTwo, u: RootTwo, a: u64) -> u64
     requires { ⌜ Ready f g w o u a ⌝ }
     ensures { λ r. ⌜ Passed f g o u a r ⌝ }
 {
-    let mut x = first(w);
+    let mut x = rows::first(w, HALF, TOP);
     let mut y = 0;
     while x < TOP {
-        if !row::below(w, row::coordinate(HALF, x), 0) {
+        if !rows::below(
+            w,
+            RootTwo {
+                p: rows::coordinate(HALF, x),
+                q: 0,
+            },
+        ) {
             return 20001;
         }
         let r = in_row(f, g, x, y);
         if r < TOP {
             let z = place(o, u, x, r);
-            if z < row::coordinate(10000, a) {
+            if z < rows::coordinate(10000, a) {
                 y = r + 1;
             } else {
                 return search::past(z);
@@ -154,9 +141,9 @@ fn in_row(f: Strip, g: Strip, x: u64, y: u64) -> u64
     requires { ⌜ Ends scaled f × Ends scaled g × (x ≤ top) × (y ≤ top) ⌝ }
     ensures { λ r. ⌜ InRow f g x y r ⌝ }
 {
-    let r = row::least(f, g, HALF, x, y, TOP);
+    let r = rows::least(f, g, HALF, x, y, TOP);
     if r < TOP {
-        if row::upper(f, g, HALF, x, r) {
+        if rows::upper(f, g, HALF, x, r) {
             return r;
         }
     }
@@ -168,13 +155,7 @@ fn place(o: RootTwo, u: RootTwo, x: u64, y: u64) -> i64
     requires { ⌜ Sized whole o × Sized unitSize u × (x ≤ top) × (y ≤ top) ⌝ }
     ensures { λ r. ⌜ r ≡ origin o u (pairAt x y) .p ⌝ }
 {
-    let z = product(
-        conjugate(u),
-        RootTwo {
-            p: row::coordinate(HALF, x),
-            q: row::coordinate(HALF, y),
-        },
-    );
+    let z = product(conjugate(u), rows::pair(HALF, x, y));
     let w = combined(1, z, 1, o);
     w.p
 }

@@ -5,14 +5,14 @@ ghost use Prim.Native.Nat.{_≤_};
 ghost use lib.IntN.{natAbs};
 ghost use Rattle.ring.specs.RootTwo.{_⊟_, _⊠_, num};
 ghost use Rattle.ring.specs.RootTwo.Order.{nonneg};
-ghost use Rattle.line.specs.Steps.{shiftOf, timesOf, Even};
+ghost use Rattle.rows.specs.Steps.{shiftOf, timesOf, Even};
 ghost use Rattle.line.specs.Narrow.{endOf};
 ghost use Rattle.line.specs.Sized.{Sized, Ends, whole, shifted, scaled, unitSize};
-use crate::row::Strip;
 use ring::RootTwo;
 use ring::exact::combined;
 use ring::exact::is_nonneg;
 use ring::exact::product;
+use rows::Strip;
 
 // Step 2: I − α₀, or J − α₀•.
 pub(crate) fn shift(s: Strip, w: RootTwo) -> Strip

@@ -13,8 +13,8 @@ use ring::Point;
 
 mod bounded;
 mod conditions;
+mod coordinates;
 mod matrix;
-mod rows;
 mod sums;
 
 pub use bounded::determinant;
@@ -168,10 +168,10 @@ impl Operator {
         ensures { λ r. ⌜ wide r ≡ imageOf self (wide v) ⌝ }
     {
         WidePoint {
-            a: rows::minus(self.a, self.ai, self.bi, self.di, self.b, self.d, v),
-            b: rows::plus(self.b, self.bi, self.ci, self.ai, self.c, self.a, v),
-            c: rows::plus(self.c, self.ci, self.bi, self.di, self.b, self.d, v),
-            d: rows::minus(self.d, self.di, self.ci, self.ai, self.c, self.a, v),
+            a: coordinates::minus(self.a, self.ai, self.bi, self.di, self.b, self.d, v),
+            b: coordinates::plus(self.b, self.bi, self.ci, self.ai, self.c, self.a, v),
+            c: coordinates::plus(self.c, self.ci, self.bi, self.di, self.b, self.d, v),
+            d: coordinates::minus(self.d, self.di, self.ci, self.ai, self.c, self.a, v),
         }
     }
 

@@ -1,11 +1,6 @@
-pub mod Ceiling
 pub mod Image
 pub mod Lines
 pub mod Nest
-pub mod Reach
 pub mod Rows
 pub mod Search
-pub mod Sharp
-pub mod Strips
-pub mod Units
 pub mod Void

@@ -1,12 +1,12 @@
 -- A job with a region that is seen to hold nothing has no solution: SPEC, "Questions".
 use mathlib.Core.Path.{_≡_, sym, ap}
 use mathlib.Core.Bool.{true, false, not}
+use Rattle.ranks.specs.Rest.{isNil}
 use Rattle.ring.specs.declared.Point.{Point}
 use Rattle.region.specs.declared.Job.{Job}
 use Rattle.region.specs.Region.{solves}
 use Rattle.region.specs.Membership.{solves-true}
 use Rattle.region.specs.Void.{isVoid, void-none}
-use Rattle.ranks.specs.Rest.{isNil}
 use Rattle.walk.specs.Walk.{full}
 use Rattle.walk.specs.Full.{full-empty}
 use Rattle.walk.specs.Search.{no-solution}

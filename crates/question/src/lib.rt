@@ -1,33 +1,22 @@
-// The plain question: SPEC, "Questions", searched in the coordinates of an operator; and the reduction, which proposes an operator.
+// The plain question: SPEC, "Questions", searched in the coordinates of an operator.
 ghost use mathlib.Core.Path.{_≡_};
 ghost use mathlib.Core.Bool.{true, not};
-ghost use Rattle.region.specs.Region.{acceptedJob};
 ghost use Rattle.ranks.specs.Rest.{isNil};
+ghost use Rattle.region.specs.Region.{acceptedJob};
+ghost use Rattle.reduction.specs.Undoing.{Undoing};
 ghost use Rattle.walk.specs.Walk.{full};
-ghost use Rattle.operator.specs.declared.Check.the-variants.{Special};
-ghost use Rattle.operator.specs.Operator.{checkOf};
-ghost use Rattle.question.specs.Image.{Undoing};
 
-mod generators;
+mod halves;
 mod image;
 mod lines;
-mod reach;
-mod reduce;
 mod search;
-mod sharp;
-mod strips;
-mod units;
 
-use operator::Inverse;
 use operator::Operator;
+use reduction::Turn;
+pub use reduction::propose;
+use reduction::usable;
 use region::Job;
 use walk::Look;
-
-// An operator and its inverse.
-pub(crate) struct Turn {
-    pub there: Operator,
-    pub back: Operator,
-}
 
 // Whether a job's list has a point: by a brief look in its own coordinates, or else searched in the coordinates of an operator.
 pub fn has_solution(job: Job, caller: Operator) -> bool
@@ -57,7 +46,7 @@ fn searched(job: Job, caller: Operator) -> bool
     if b.is_void() {
         return false;
     }
-    search::search(job, reduce::oriented(job, in_force(job, caller)))
+    search::search(job, reduction::oriented(job, in_force(job, caller)))
 }
 
 fn in_force(job: Job, caller: Operator) -> Turn
@@ -67,19 +56,7 @@ fn in_force(job: Job, caller: Operator) -> Turn
     if is_identity(caller) {
         return usable(propose(job));
     }
-    reduce::chosen(job, usable(caller))
-}
-
-// The reduction's proposal for a job. Its choice is free: it passes the operators' test, and every answer is the same whatever it is.
-pub fn propose(job: Job) -> Operator
-    ensures { λ r. ⌜ checkOf r ≡ Special ⌝ }
-{
-    if job.is_accepted() {
-        let t = reduce::reduced(job);
-        t.there
-    } else {
-        Operator::IDENTITY
-    }
+    reduction::chosen(job, usable(caller))
 }
 
 fn is_identity(g: Operator) -> bool {
@@ -91,18 +68,4 @@ fn is_identity(g: Operator) -> bool {
         & (g.bi == 1)
         & (g.ci == 0)
         & (g.di == 0)
-}
-
-// The operator with its inverse, or the identity for one that the test refuses.
-pub(crate) fn usable(g: Operator) -> Turn
-    ensures { λ r. ⌜ Undoing r ⌝ }
-{
-    let i = g.inverse();
-    match i {
-        Inverse::Operator(h) => Turn { there: g, back: h },
-        Inverse::Refused(_) => Turn {
-            there: Operator::IDENTITY,
-            back: Operator::IDENTITY,
-        },
-    }
 }

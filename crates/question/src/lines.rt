@@ -5,19 +5,18 @@ ghost use mathlib.Core.Bool.{false};
 ghost use Rattle.ring.specs.RootTwo.{_⊟_, _⊠_};
 ghost use Rattle.ring.specs.RootTwo.Order.{nonneg};
 ghost use Rattle.ring.specs.RootTwo.Sized.{Sized};
-ghost use Rattle.line.specs.Row.{coordinate, lower, upper, Small, Least};
-ghost use Rattle.question.specs.Strips.{Ends};
-ghost use Rattle.question.specs.Rows.{middle, top, pairAt, joinedOf, First};
+ghost use Rattle.rows.specs.Row.{coordinate, lower, upper, Least};
+ghost use Rattle.strips.specs.Strips.{Ends};
+ghost use Rattle.question.specs.Rows.{middle, top, pairAt, joinedOf};
 ghost use Rattle.question.specs.Lines.{Searchable, Pairless, rowless, Line-with, Line-of};
-use crate::strips::Strips;
-use crate::units;
-use line::row;
-use line::row::Strip;
 use ring::RootTwo;
 use ring::exact::combined;
 use ring::exact::conjugate;
 use ring::exact::is_nonneg;
 use ring::exact::product;
+use rows::Strip;
+use strips::Strips;
+use strips::units;
 
 // The digit of 0, and the number of digits.
 pub(crate) const HALF: u64 = 549755813888;
@@ -30,24 +29,6 @@ pub(crate) struct Line {
     pub back: RootTwo,
     pub from: u64,
     pub end: u64,
-}
-
-// The first digit t with lo ≤ m·(t − 2^39), or TOP, by bisection.
-fn first(s: Strip) -> u64
-    requires { ⌜ Small s ⌝ }
-    ensures { λ r. ⌜ First s r ⌝ }
-{
-    let mut lo = 0;
-    let mut hi = TOP;
-    while lo < hi {
-        let mid = lo + (hi - lo) / 2;
-        if row::above(s, row::coordinate(HALF, mid), 0) {
-            hi = mid;
-        } else {
-            lo = mid + 1;
-        }
-    }
-    hi
 }
 
 // The strip of 2p = ζ + ζ•, and so of the rows.
@@ -110,8 +91,8 @@ fn with_rows(s: Strips, back: RootTwo) -> Line
         first: f,
         second: g,
         back: back,
-        from: first(j),
-        end: first(u) + 1,
+        from: rows::first(j, HALF, TOP),
+        end: rows::first(u, HALF, TOP) + 1,
     }
 }
 
@@ -134,7 +115,7 @@ pub(crate) fn start(l: Line, t: u64) -> u64
     requires { ⌜ Searchable l × (t ≤ top) ⌝ }
     ensures { λ r. ⌜ Least (λ q. lower (l .first) (l .second) (coordinate middle t) (coordinate middle q)) 0 top r ⌝ }
 {
-    row::least(l.first, l.second, HALF, t, 0, TOP)
+    rows::least(l.first, l.second, HALF, t, 0, TOP)
 }
 
 // Whether the other two bounds hold: they hold up to some digit.
@@ -142,7 +123,7 @@ pub(crate) fn reaches(l: Line, t: u64, q: u64) -> bool
     requires { ⌜ Searchable l × (t ≤ top) × (q ≤ top) ⌝ }
     ensures { λ r. ⌜ r ≡ upper (l .first) (l .second) (coordinate middle t) (coordinate middle q) ⌝ }
 {
-    row::upper(l.first, l.second, HALF, t, q)
+    rows::upper(l.first, l.second, HALF, t, q)
 }
 
 // Whether a pair lies in the line.
@@ -169,9 +150,5 @@ pub(crate) fn number(l: Line, t: u64, q: u64) -> RootTwo
     requires { ⌜ Searchable l × (t ≤ top) × (q ≤ top) ⌝ }
     ensures { λ r. ⌜ (r ≡ l .back ⊠ pairAt t q) × Sized (2 ^ 60) (2 ^ 60) r ⌝ }
 {
-    let z = RootTwo {
-        p: row::coordinate(HALF, t),
-        q: row::coordinate(HALF, q),
-    };
-    product(l.back, z)
+    product(l.back, rows::pair(HALF, t, q))
 }

@@ -3,7 +3,7 @@ use Prim.Native.Nat.{ℕ}
 use native.Mathlib.Omega.{arith}
 use lib.IntN.{negℤ}
 use Rattle.ring.specs.RootTwo.{conj-parts}
-use Rattle.line.specs.Steps.{Even, even-conj, evenPower, even-power}
+use Rattle.rows.specs.Steps.{Even, even-conj, evenPower, even-power}
 use Rattle.line.proofs.steps.power.Statement.{statement}
 use Rattle.line.proofs.steps.power.Tie as tie
 

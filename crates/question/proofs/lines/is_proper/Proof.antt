@@ -8,7 +8,7 @@ use Rattle.ring.specs.declared.RootTwo.{RootTwo}
 use Rattle.ring.specs.RootTwo.{_⊞_, _⊟_, _⊠_, num, ring√}
 use Rattle.ring.specs.RootTwo.Order.{nonneg}
 use Rattle.ring.specs.RootTwo.Sized.{room}
-use Rattle.question.specs.Strips.{endSize}
+use Rattle.strips.specs.Strips.{endSize}
 use Rattle.question.proofs.lines.is_proper.Statement.{statement}
 use Rattle.question.proofs.lines.is_proper.Tie as tie
 

@@ -6,9 +6,10 @@ use mir.Syntax.{w64}
 use mir.Val.{SFits}
 use mir.Facts.{toZ-ofZ}
 use Rattle.integers.specs.Size.{size-*≤, size→fits}
-use Rattle.line.specs.declared.row.Strip.{Strip}
 use Rattle.ring.specs.RootTwo.Sized.{room}
-use Rattle.question.specs.Strips.{endSize, strip-ext}
+use Rattle.rows.specs.declared.Strip.{Strip}
+use Rattle.rows.specs.Row.{strip-ext}
+use Rattle.strips.specs.Strips.{endSize}
 use Rattle.question.proofs.lines.joined.Statement.{statement}
 use Rattle.question.proofs.lines.joined.Tie as tie
 

@@ -5,9 +5,9 @@ use Rattle.integers.specs.Difference.{_≼_}
 use Rattle.ring.specs.RootTwo.Sized.{Sized, sized-more, conj-size}
 use native.Mathlib.Omega.{arith}
 use borrow.Author.Needs.{needs}
-use Rattle.question.specs.declared.strips.Strips.{Strips}
+use Rattle.strips.specs.declared.Strips.{Strips}
 use Rattle.question.specs.Lines.{Line-with}
-use Rattle.question.specs.Units.{line-scaled, line-same}
+use Rattle.question.specs.Lines.{line-scaled, line-same}
 use Rattle.question.proofs.lines.of_strips.Statement.{statement}
 use Rattle.question.proofs.lines.of_strips.Tie as tie
 

@@ -7,9 +7,9 @@ use mir.Facts.{toZ-ofZ}
 use borrow.Author.Needs.{needs}
 use borrow.Author.Tests.{not-true}
 use Rattle.integers.specs.Size.{size→fits}
-use Rattle.line.specs.declared.row.Strip.{Strip}
-use Rattle.line.specs.Row.{Small}
-use Rattle.question.specs.Rows.{joinedOf, First, joined-small}
+use Rattle.rows.specs.declared.Strip.{Strip}
+use Rattle.rows.specs.Row.{Small, First}
+use Rattle.question.specs.Rows.{middle, top, joinedOf, joined-small}
 use Rattle.question.specs.Lines.{Line-with, line-with, line-empty}
 use Rattle.question.proofs.lines.with_rows.Statement.{statement}
 use Rattle.question.proofs.lines.with_rows.Tie as tie
@@ -62,13 +62,13 @@ module _ (c : tie.After-joined) where
   end j = record { m = j .m; lo = j .hi; hi = j .hi }
 
   end-small : Small (end j)
-  end-small = let k = j-small in record { scale = k .scale; positive = k .positive; lo-p = k .hi-p; lo-q = k .hi-q; hi-p = k .hi-p; hi-q = k .hi-q }
+  end-small = let k = j-small in record { scale = k .scale; positive = k .positive; lo = k .hi; hi = k .hi }
 
 first-requires : tie.Need-first-requires
-first-requires c κs = j-small (c .before .before)
+first-requires c κs = (j-small (c .before .before), omega arith, omega arith)
 
 first-requires-2 : tie.Need-first-requires-2
-first-requires-2 c κs = let d = c .before .before .before in rw (m-is d) (end-small d)
+first-requires-2 c κs = let d = c .before .before .before in rw (m-is d) (end-small d, omega arith, omega arith)
 
 add-t12 : tie.Need-add-t12
 add-t12 c = omega (arith, c .first2 .ensures .within)
@@ -78,8 +78,8 @@ returns-3 c =
     let d = c .before .before .before .before in
     let e = rw (m-is d) at (c .first2 .ensures) in
     line-with (s d .args .s) (s d .args .back) (c .before .first .result) (c .first2 .result) (s d .pre .0) (s d .pre .1) (s d .pre .2)
-    (subst (λ x. First x (c .before .first .result)) (j-is d) (c .before .first .ensures))
-    (subst (λ x. First (end d x) (c .first2 .result)) (j-is d) e)
+    (subst (λ x. First middle top x (c .before .first .result)) (j-is d) (c .before .first .ensures))
+    (subst (λ x. First middle top (end d x) (c .first2 .result)) (j-is d) e)
 
 pub with-rows-spec : {M : Type 1} → statement M
 with-rows-spec =
