@@ -40,8 +40,8 @@ use Rattle.session.proofs.Session as S
 use Rattle.session.proofs.Session.Laws as S′
 use Rattle.session.proofs.Outcome as O
 use Rattle.session.proofs.Outcome.Laws as O′
-use Rattle.bench.proofs.Data.{Value, pair-ty, last, silent}
-use Rattle.bench.proofs.Types.{session, answer, outcome}
+use Rattle.lent.proofs.Data.{Value, pair-ty, last, silent}
+use Rattle.lent.proofs.Types.{session, answer, outcome}
 use Rattle.held.proofs.Local.{lends, back}
 use Rattle.held.proofs.Outcome.{val, own, cell, ref, out, out-is}
 

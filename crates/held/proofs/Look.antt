@@ -32,8 +32,8 @@ use denote.Triple.Walked.{says, Stays, stay-none, walkOf, goes-none, ends-at, wa
 use denote.Triple.Clauses.{Ended, Clauses, closing, ensured, lasts}
 use Rattle.session.proofs.Session as S
 use Rattle.session.proofs.Session.Laws as S′
-use Rattle.bench.proofs.Data.{Value, last, silent}
-use Rattle.bench.proofs.Types.{session, answer}
+use Rattle.lent.proofs.Data.{Value, last, silent}
+use Rattle.lent.proofs.Types.{session, answer}
 use Rattle.held.proofs.Local.{lends-shr, shr-back}
 use Rattle.held.proofs.Outcome.{val, own, cell, ref}
 

@@ -9,12 +9,12 @@ use Rattle.session.proofs.read as value
 use Rattle.session.proofs.read.Symbol as value-def
 use Rattle.session.proofs.read.Symbol.{name as #value}
 use Rattle.session.proofs.read.Met as value-thm
-use Rattle.bench.proofs.Types.{outcome}
-use Rattle.bench.proofs.LentBytes.{lent-bytes}
-use Rattle.bench.proofs.read.Key.{name as #self}
-use Rattle.bench.proofs.read as self
-use Rattle.bench.proofs.read.Statement as stated
-use Rattle.bench.proofs.read.Code as code
+use Rattle.lent.proofs.Types.{outcome}
+use Rattle.lent.proofs.LentBytes.{lent-bytes}
+use Rattle.lent.proofs.read.Key.{name as #self}
+use Rattle.lent.proofs.read as self
+use Rattle.lent.proofs.read.Statement as stated
+use Rattle.lent.proofs.read.Code as code
 
 pub read-spec : {M : Type 1} → stated.statement M
 unfolding code.routine tablesOf

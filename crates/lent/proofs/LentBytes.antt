@@ -32,9 +32,9 @@ use denote.Triple.Entry.{onEntry}
 use denote.Triple.Spec.{Meets, tripleOf}
 use denote.Triple.Walked.{says, Stays, stay-ref, stay-none-slice, walkOf, goes-ref, goes-none-slice, ends-at, walked, walk-meets}
 use denote.Triple.Clauses.{Ended, Clauses, closing, ensured, lasts}
-use Rattle.bench.proofs.Data.{Datum, Value, &, Pair, pair-ty, stores}
-use Rattle.bench.proofs.Steps.{opens-datum}
-use Rattle.bench.proofs.Stored.{stored}
+use Rattle.lent.proofs.Data.{Datum, Value, &, Pair, pair-ty, stores}
+use Rattle.lent.proofs.Steps.{opens-datum}
+use Rattle.lent.proofs.Stored.{stored}
 
 module _ {S R : Datum} (O : Pair S R) where
   -- F's MIR, and the signatures of F and of f

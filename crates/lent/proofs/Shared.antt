@@ -28,8 +28,8 @@ use denote.Triple.Entry.{onEntry}
 use denote.Triple.Spec.{Meets, tripleOf}
 use denote.Triple.Walked.{says, Stays, stay-none-ref, walkOf, goes-none-ref, ends-at, walked, walk-meets}
 use denote.Triple.Clauses.{Ended, Clauses, closing, ensured, lasts}
-use Rattle.bench.proofs.Data.{Datum, Value, &}
-use Rattle.bench.proofs.Steps.{looks-datum, shuts-datum}
+use Rattle.lent.proofs.Data.{Datum, Value, &}
+use Rattle.lent.proofs.Steps.{looks-datum, shuts-datum}
 
 module _ (S R : Datum) where
   -- F's MIR, and the signatures of F and of f

@@ -9,12 +9,12 @@ use Rattle.session.proofs.clear as value
 use Rattle.session.proofs.clear.Symbol as value-def
 use Rattle.session.proofs.clear.Symbol.{name as #value}
 use Rattle.session.proofs.clear.Met as value-thm
-use Rattle.bench.proofs.Types.{outcome}
-use Rattle.bench.proofs.Lent.{lent}
-use Rattle.bench.proofs.clear.Key.{name as #self}
-use Rattle.bench.proofs.clear as self
-use Rattle.bench.proofs.clear.Statement as stated
-use Rattle.bench.proofs.clear.Code as code
+use Rattle.lent.proofs.Types.{outcome}
+use Rattle.lent.proofs.Lent.{lent}
+use Rattle.lent.proofs.clear.Key.{name as #self}
+use Rattle.lent.proofs.clear as self
+use Rattle.lent.proofs.clear.Statement as stated
+use Rattle.lent.proofs.clear.Code as code
 
 pub clear-spec : {M : Type 1} → stated.statement M
 unfolding code.routine tablesOf

@@ -9,12 +9,12 @@ use Rattle.session.proofs.rewind as value
 use Rattle.session.proofs.rewind.Symbol as value-def
 use Rattle.session.proofs.rewind.Symbol.{name as #value}
 use Rattle.session.proofs.rewind.Met as value-thm
-use Rattle.bench.proofs.Types.{outcome}
-use Rattle.bench.proofs.Lent.{lent}
-use Rattle.bench.proofs.rewind.Key.{name as #self}
-use Rattle.bench.proofs.rewind as self
-use Rattle.bench.proofs.rewind.Statement as stated
-use Rattle.bench.proofs.rewind.Code as code
+use Rattle.lent.proofs.Types.{outcome}
+use Rattle.lent.proofs.Lent.{lent}
+use Rattle.lent.proofs.rewind.Key.{name as #self}
+use Rattle.lent.proofs.rewind as self
+use Rattle.lent.proofs.rewind.Statement as stated
+use Rattle.lent.proofs.rewind.Code as code
 
 pub rewind-spec : {M : Type 1} → stated.statement M
 unfolding code.routine tablesOf

@@ -1,5 +1,5 @@
-// The bench keeps one session, and each call moves that session on: SPEC, "Calls". Each call is lent the session, calls the one of `session`
-// that takes it by value, and has the same contract.
+// The calls on a session that is lent, which each call moves on: SPEC, "Calls". Each calls the one of `session` that takes the session by value,
+// and has the same contract.
 ghost use mathlib.Core.List.{[]};
 ghost use Rattle.calls.specs.Session.{reading, rewind as rewinding, clear as clearing, plain, imageOf, shortest as shortestOf};
 ghost use Rattle.session.specs.Session.{Steps, Hands};

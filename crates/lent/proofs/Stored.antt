@@ -19,8 +19,8 @@ use types.Part.{whole, sub, look-in}
 use types.SemTy.{Body}
 use denote.Laws.{Is}
 use denote.Memory.{mem}
-use Rattle.bench.proofs.Data.{Datum, Value, &, Pair, pair-ty, stores}
-use Rattle.bench.proofs.Steps.{cell, closes-datum}
+use Rattle.lent.proofs.Data.{Datum, Value, &, Pair, pair-ty, stores}
+use Rattle.lent.proofs.Steps.{cell, closes-datum}
 
 module _ {M : Type 1} {𝓤 : URA M} {H : Heap 𝓤} {A : Atoms 𝓤} {K : Type 0} {W : Given 𝓤 H A} {Γ : List (Item 𝓤)} where
   -- a place in the local k, which is at l

@@ -9,12 +9,12 @@ use Rattle.session.proofs.has_solution as value
 use Rattle.session.proofs.has_solution.Symbol as value-def
 use Rattle.session.proofs.has_solution.Symbol.{name as #value}
 use Rattle.session.proofs.has_solution.Met as value-thm
-use Rattle.bench.proofs.Types.{session, answer}
-use Rattle.bench.proofs.Shared.{shared}
-use Rattle.bench.proofs.has_solution.Key.{name as #self}
-use Rattle.bench.proofs.has_solution as self
-use Rattle.bench.proofs.has_solution.Statement as stated
-use Rattle.bench.proofs.has_solution.Code as code
+use Rattle.lent.proofs.Types.{session, answer}
+use Rattle.lent.proofs.Shared.{shared}
+use Rattle.lent.proofs.has_solution.Key.{name as #self}
+use Rattle.lent.proofs.has_solution as self
+use Rattle.lent.proofs.has_solution.Statement as stated
+use Rattle.lent.proofs.has_solution.Code as code
 
 pub has-solution-spec : {M : Type 1} → stated.statement M
 unfolding code.routine tablesOf

@@ -9,12 +9,12 @@ use Rattle.session.proofs.has_image as value
 use Rattle.session.proofs.has_image.Symbol as value-def
 use Rattle.session.proofs.has_image.Symbol.{name as #value}
 use Rattle.session.proofs.has_image.Met as value-thm
-use Rattle.bench.proofs.Types.{session, point, answer}
-use Rattle.bench.proofs.SharedWith.{shared-with}
-use Rattle.bench.proofs.has_image.Key.{name as #self}
-use Rattle.bench.proofs.has_image as self
-use Rattle.bench.proofs.has_image.Statement as stated
-use Rattle.bench.proofs.has_image.Code as code
+use Rattle.lent.proofs.Types.{session, point, answer}
+use Rattle.lent.proofs.SharedWith.{shared-with}
+use Rattle.lent.proofs.has_image.Key.{name as #self}
+use Rattle.lent.proofs.has_image as self
+use Rattle.lent.proofs.has_image.Statement as stated
+use Rattle.lent.proofs.has_image.Code as code
 
 pub has-image-spec : {M : Type 1} → stated.statement M
 unfolding code.routine tablesOf

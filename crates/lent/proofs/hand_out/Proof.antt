@@ -7,12 +7,12 @@ use Rattle.session.proofs.hand_out as value
 use Rattle.session.proofs.hand_out.Symbol as value-def
 use Rattle.session.proofs.hand_out.Symbol.{name as #value}
 use Rattle.session.proofs.hand_out.Met as value-thm
-use Rattle.bench.proofs.Types.{outcome}
-use Rattle.bench.proofs.LentNumbers.{lent-numbers}
-use Rattle.bench.proofs.hand_out.Key.{name as #self}
-use Rattle.bench.proofs.hand_out as self
-use Rattle.bench.proofs.hand_out.Statement as stated
-use Rattle.bench.proofs.hand_out.Code as code
+use Rattle.lent.proofs.Types.{outcome}
+use Rattle.lent.proofs.LentNumbers.{lent-numbers}
+use Rattle.lent.proofs.hand_out.Key.{name as #self}
+use Rattle.lent.proofs.hand_out as self
+use Rattle.lent.proofs.hand_out.Statement as stated
+use Rattle.lent.proofs.hand_out.Code as code
 
 pub hand-out-spec : {M : Type 1} → stated.statement M
 unfolding code.routine tablesOf

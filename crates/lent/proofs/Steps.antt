@@ -21,7 +21,7 @@ use denote.Laws.{Is, shows}
 use denote.Memory.{cellAt, mem, partAt}
 use denote.Steps.{opens, closes, looks, shuts, owned, peeks}
 use denote.Struct.Steps.{spelt}
-use Rattle.bench.proofs.Data.{Datum}
+use Rattle.lent.proofs.Data.{Datum}
 
 -- a share of the datum's cell, with its value
 abbrev pub cell : (S : Datum) → Share → S .row .Denot → ℕ → ℕ → Fml

@@ -9,12 +9,12 @@ use Rattle.session.proofs.shortest as value
 use Rattle.session.proofs.shortest.Symbol as value-def
 use Rattle.session.proofs.shortest.Symbol.{name as #value}
 use Rattle.session.proofs.shortest.Met as value-thm
-use Rattle.bench.proofs.Types.{session, answer}
-use Rattle.bench.proofs.Shared.{shared}
-use Rattle.bench.proofs.shortest.Key.{name as #self}
-use Rattle.bench.proofs.shortest as self
-use Rattle.bench.proofs.shortest.Statement as stated
-use Rattle.bench.proofs.shortest.Code as code
+use Rattle.lent.proofs.Types.{session, answer}
+use Rattle.lent.proofs.Shared.{shared}
+use Rattle.lent.proofs.shortest.Key.{name as #self}
+use Rattle.lent.proofs.shortest as self
+use Rattle.lent.proofs.shortest.Statement as stated
+use Rattle.lent.proofs.shortest.Code as code
 
 pub shortest-spec : {M : Type 1} → stated.statement M
 unfolding code.routine tablesOf

@@ -10,7 +10,7 @@ use Rattle.session.proofs.Answer as A
 use Rattle.session.proofs.Answer.Laws as A′
 use Rattle.session.proofs.Outcome as O
 use Rattle.session.proofs.Outcome.Laws as O′
-use Rattle.bench.proofs.Data.{Datum, Pair, struct, enum}
+use Rattle.lent.proofs.Data.{Datum, Pair, struct, enum}
 
 abbrev pub session : Datum
 session = struct S.the-type S′.the-laws S′.the-plain S′.the-copy

@@ -34,9 +34,9 @@ use denote.Triple.Entry.{onEntry}
 use denote.Triple.Spec.{Meets, tripleOf}
 use denote.Triple.Walked.{says, Stays, stay-ref, gave-slice, walkOf, goes-ref, goes-gave-slice, ends-at, walked, walk-meets}
 use denote.Triple.Clauses.{Ended, Clauses, closing, ensured, Lasts, lasts}
-use Rattle.bench.proofs.Data.{Datum, Value, &, Pair, pair-ty, stores}
-use Rattle.bench.proofs.Steps.{opens-datum}
-use Rattle.bench.proofs.Stored.{stored}
+use Rattle.lent.proofs.Data.{Datum, Value, &, Pair, pair-ty, stores}
+use Rattle.lent.proofs.Steps.{opens-datum}
+use Rattle.lent.proofs.Stored.{stored}
 
 -- the type of the lent numbers, for a lifetime
 abbrev &i32 : Lifetime → Ty
