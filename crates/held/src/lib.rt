@@ -1,7 +1,7 @@
 // A session of one's own, lent to the calls of `lent`: each takes the session, lends it for the call, and has it back with the answer.
 ghost use mathlib.Core.List.{[]};
 ghost use Rattle.calls.specs.Session.{reading, rewind as rewinding, clear as clearing, plain, imageOf, shortest as shortestOf};
-ghost use Rattle.session.specs.Session.{Steps, Hands};
+ghost use Rattle.stages.specs.Session.{Steps, Hands};
 use ring::Point;
 use session::Answer;
 use session::Outcome;

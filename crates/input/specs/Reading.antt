@@ -20,10 +20,10 @@ use mathlib.Core.Bool.{Bool}
 use Rattle.region.specs.declared.Region.{Region}
 use Rattle.region.specs.declared.Job.{Job}
 use Rattle.operator.specs.declared.Operator.{Operator}
-use Rattle.session.specs.declared.Parts.{Parts}
-use Rattle.session.specs.declared.Parts.the-variants.{Nothing, Scaled, Selected, First}
-use Rattle.session.specs.World.{world, turnAt, placeScale, placeSelection, placeRegion, place, note, partReading, operatorReading}
-use Rattle.session.specs.Session.{meaning, fresh}
+use Rattle.stages.specs.declared.Parts.{Parts}
+use Rattle.stages.specs.declared.Parts.the-variants.{Nothing, Scaled, Selected, First}
+use Rattle.stages.specs.World.{world, turnAt, placeScale, placeSelection, placeRegion, place, note, partReading, operatorReading}
+use Rattle.stages.specs.Session.{meaning, fresh}
 use Rattle.input.specs.Load.{Loaded, tooLong, finished, onward, records, most, loadOf}
 
 Bounds : ℕ → List ℕ → Type 0

@@ -4,12 +4,12 @@ use denote.Steps.{only}
 use denote.Struct.Laws as LL
 use Rattle.ring.proofs.Point as P
 use Rattle.ring.proofs.Point.Laws as P′
-use Rattle.session.proofs.Session as S
-use Rattle.session.proofs.Session.Laws as S′
-use Rattle.session.proofs.Answer as A
-use Rattle.session.proofs.Answer.Laws as A′
-use Rattle.session.proofs.Outcome as O
-use Rattle.session.proofs.Outcome.Laws as O′
+use Rattle.stages.proofs.Session as S
+use Rattle.stages.proofs.Session.Laws as S′
+use Rattle.stages.proofs.Answer as A
+use Rattle.stages.proofs.Answer.Laws as A′
+use Rattle.stages.proofs.Outcome as O
+use Rattle.stages.proofs.Outcome.Laws as O′
 use Rattle.lent.proofs.Data.{Datum, Pair, struct, enum}
 
 abbrev pub session : Datum

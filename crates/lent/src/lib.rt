@@ -2,7 +2,7 @@
 // and has the same contract.
 ghost use mathlib.Core.List.{[]};
 ghost use Rattle.calls.specs.Session.{reading, rewind as rewinding, clear as clearing, plain, imageOf, shortest as shortestOf};
-ghost use Rattle.session.specs.Session.{Steps, Hands};
+ghost use Rattle.stages.specs.Session.{Steps, Hands};
 use ring::Point;
 use session::Answer;
 use session::Session;

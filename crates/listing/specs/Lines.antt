@@ -15,7 +15,7 @@ use Rattle.cuts.specs.Digits.{span}
 use Rattle.walk.specs.Walk.{listedAt, numbersOf}
 use Rattle.calls.specs.Session.{early, walking}
 use Rattle.calls.specs.Session as Model
-use Rattle.session.specs.World.{world}
+use Rattle.stages.specs.World.{world}
 
 -- a coordinate and a space; a count and the mark after it
 unfoldable pub coordinateText : ℤ → List ℕ

@@ -6,8 +6,8 @@ use lib.ListN.{length}
 use Rattle.text.specs.Append.{Appended}
 use Rattle.calls.specs.Session.{early, walking}
 use Rattle.calls.specs.Session as Model
-use Rattle.session.specs.World.{world}
-use Rattle.session.specs.Session.{meaning}
+use Rattle.stages.specs.World.{world}
+use Rattle.stages.specs.Session.{meaning}
 use Rattle.listing.specs.declared.page.Page.{Page}
 use Rattle.listing.specs.Lines.{Paging}
 

@@ -9,7 +9,7 @@ ghost use Rattle.text.specs.Decimal.{decimal};
 ghost use Rattle.words.specs.Meaning.{sizeOf};
 ghost use Rattle.text.specs.Written.{written, after};
 ghost use Rattle.record.specs.Record.{number};
-ghost use Rattle.session.specs.Session.{meaning};
+ghost use Rattle.stages.specs.Session.{meaning};
 ghost use Rattle.listing.specs.Lines.{coordinateText, countText, pointLine, pointAt, linesOf, endLine, refusalLine, pageOf, roomIn};
 ghost use Rattle.listing.specs.Page.{Paged, scaleOf};
 use record::Refusal;

@@ -5,7 +5,7 @@ use lib.ListN.{length}
 use Rattle.ranks.specs.Handed.{flat}
 use Rattle.walk.specs.Walk.{numbersOf}
 use Rattle.calls.specs.Since.{fullOf}
-use Rattle.session.specs.World.{world}
+use Rattle.stages.specs.World.{world}
 use Rattle.input.specs.Load.{Loaded, ready, refused, tooLong, loadOf}
 use Rattle.listing.specs.Lines.{linesOf, endLine, refusalLine}
 use Rattle.listing.specs.Page.{scaleOf}

@@ -12,8 +12,8 @@ use Rattle.cuts.specs.Digits.{span}
 use Rattle.walk.specs.Walk.{listedAt}
 use Rattle.calls.specs.Session.{early, walking}
 use Rattle.calls.specs.Session as Model
-use Rattle.session.specs.World.{world}
-use Rattle.session.specs.Session.{meaning}
+use Rattle.stages.specs.World.{world}
+use Rattle.stages.specs.Session.{meaning}
 use Rattle.text.specs.Append.{Appended}
 use Rattle.words.specs.Meaning.{sizeOf, wrapped}
 use Rattle.input.specs.Load.{Loaded, ready, refused, tooLong}

@@ -12,9 +12,9 @@ use Rattle.operator.specs.declared.Operator.{Operator}
 use Rattle.ranks.specs.Rest.{Place, at}
 use Rattle.calls.specs.Session.{Reading, refuse, accept, Stage, part, whole, early, walking, joined, remembered, reading, step}
 use Rattle.calls.specs.Session as Model
-use Rattle.session.specs.declared.Parts.{Parts}
-use Rattle.session.specs.World.{world, turnAt, partReading, operatorReading}
-use Rattle.session.specs.Session.{meaning, fresh}
+use Rattle.stages.specs.declared.Parts.{Parts}
+use Rattle.stages.specs.World.{world, turnAt, partReading, operatorReading}
+use Rattle.stages.specs.Session.{meaning, fresh}
 use Rattle.input.specs.Load.{Loaded, ready, refused, tooLong, finished, onward, records, most, loadOf}
 
 abbrev pub AtStart : Model.Session world → Type 0

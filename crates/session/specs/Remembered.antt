@@ -20,9 +20,9 @@ use Rattle.calls.specs.Session.{Reading, refuse, accept, Stage, part, whole, Ca
 use Rattle.calls.specs.Session.{early, walking, joined, remembered, step, after}
 use Rattle.calls.specs.Session as Model
 use Rattle.calls.specs.Remembered.{operatorOf}
-use Rattle.session.specs.declared.Parts.{Parts}
-use Rattle.session.specs.World.{world, partReading, operatorReading, turnAt}
-use Rattle.session.specs.Session.{meaning, fresh}
+use Rattle.stages.specs.declared.Parts.{Parts}
+use Rattle.stages.specs.World.{world, partReading, operatorReading, turnAt}
+use Rattle.stages.specs.Session.{meaning, fresh}
 
 never : {A : Type 0} (r n : ℕ) (a : A) → _≡_ {A = Reading A} (refuse r) (accept n a) → ⊥
 never r n a e = let u : _≡_ {A = ℕ} 0 1 = cc in absurd (omega arith)

@@ -4,7 +4,7 @@ use contract.Running.{givenOf, tables, tablesOf}
 use denote.Triple.Spec.{tripleOf}
 use denote.Triple.Table.{entered, cited}
 use Rattle.calls.specs.Session as Model
-use Rattle.session.specs.Session.{Steps}
+use Rattle.stages.specs.Session.{Steps}
 use Rattle.lent.proofs.has_solution as lent
 use Rattle.lent.proofs.has_solution.Symbol as lent-def
 use Rattle.lent.proofs.has_solution.Symbol.{name as #lent}

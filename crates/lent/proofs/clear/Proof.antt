@@ -4,7 +4,7 @@ use contract.Running.{givenOf, tables, tablesOf}
 use denote.Triple.Spec.{tripleOf}
 use denote.Triple.Table.{entered, cited}
 use Rattle.calls.specs.Session as Model
-use Rattle.session.specs.Session.{Steps}
+use Rattle.stages.specs.Session.{Steps}
 use Rattle.session.proofs.clear as value
 use Rattle.session.proofs.clear.Symbol as value-def
 use Rattle.session.proofs.clear.Symbol.{name as #value}

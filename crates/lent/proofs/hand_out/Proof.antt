@@ -2,7 +2,7 @@
 use contract.Running.{givenOf, tables, tablesOf}
 use denote.Triple.Spec.{tripleOf}
 use denote.Triple.Table.{entered, cited}
-use Rattle.session.specs.Session.{Hands}
+use Rattle.stages.specs.Session.{Hands}
 use Rattle.session.proofs.hand_out as value
 use Rattle.session.proofs.hand_out.Symbol as value-def
 use Rattle.session.proofs.hand_out.Symbol.{name as #value}

@@ -4,7 +4,7 @@ use contract.Running.{givenOf, tables, tablesOf}
 use denote.Triple.Spec.{tripleOf}
 use denote.Triple.Table.{entered, cited}
 use Rattle.calls.specs.Session.{plain}
-use Rattle.session.specs.Session.{Steps}
+use Rattle.stages.specs.Session.{Steps}
 use Rattle.session.proofs.has_solution as value
 use Rattle.session.proofs.has_solution.Symbol as value-def
 use Rattle.session.proofs.has_solution.Symbol.{name as #value}

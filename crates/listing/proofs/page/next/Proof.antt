@@ -5,7 +5,7 @@ use native.Mathlib.Nat.{min-le-left, min-le-right}
 use native.Mathlib.Omega.{arith}
 use lib.ListN.{length, take}
 use lib.Seq.{length-take-le}
-use Rattle.session.specs.Session.{meaning}
+use Rattle.stages.specs.Session.{meaning}
 use Rattle.listing.specs.Lines.{pageOf}
 use Rattle.listing.specs.Page.{Paged}
 use borrow.Author.Needs.{needs}

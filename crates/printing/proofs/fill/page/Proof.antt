@@ -2,7 +2,7 @@
 use Prim.Native.Nat.{ℕ, _+_}
 use mathlib.Core.Path.{_≡_, sym, ap, ap₂, _∙_}
 use lib.ListN.{length}
-use Rattle.session.specs.Session.{meaning}
+use Rattle.stages.specs.Session.{meaning}
 use Rattle.words.specs.Meaning.{sizeOf, wrapped}
 use Rattle.listing.specs.Lines.{pageOf, roomIn}
 use Rattle.printing.specs.Pieces.{list, last, kept}
