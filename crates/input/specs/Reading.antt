@@ -10,7 +10,7 @@ use Rattle.record.specs.declared.Reading as D
 use Rattle.record.specs.declared.Reading.the-variants as RV
 use Rattle.record.specs.declared.Record.{Record}
 use Rattle.record.specs.declared.Record.the-variants as R
-use Rattle.record.specs.declared.Turn.the-variants as T
+use Rattle.kinds.specs.declared.Turn.the-variants as T
 use Rattle.record.specs.Record.{readingOf}
 use Rattle.record.specs.Taken.{reading-takes}
 use Rattle.calls.specs.Session.{reading, refused, taken, handed, done, says, early, walking, step, joined, remembered}

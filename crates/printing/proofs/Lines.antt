@@ -7,9 +7,9 @@ use native.Mathlib.Omega.{arith}
 use borrow.Author.Tests.{lt-ltb, le-ltb}
 use lib.Dec.{lit≤}
 use lib.ListN.{length, length-append}
-use Rattle.record.specs.declared.Refusal.{Refusal}
-use Rattle.record.specs.declared.Refusal.the-variants as F
-use Rattle.record.specs.Record.{number}
+use Rattle.kinds.specs.declared.Refusal.{Refusal}
+use Rattle.kinds.specs.declared.Refusal.the-variants as F
+use Rattle.kinds.specs.Kinds.{number}
 use Rattle.text.specs.Append.{Appended, appended}
 use Rattle.text.specs.Decimal.{decimal}
 use Rattle.words.specs.Meaning.{sizeOf}

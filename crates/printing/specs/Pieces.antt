@@ -5,7 +5,7 @@ use mathlib.Core.List.{List, [], _++_}
 use Prim.Native.Nat.{ℕ, suc, _+_}
 use lib.Dec.{ltb}
 use lib.ListN.{length, take}
-use Rattle.record.specs.Record.{number}
+use Rattle.kinds.specs.Kinds.{number}
 use Rattle.ranks.specs.Rest.{leftAt}
 use Rattle.ranks.specs.Rank.{top}
 use Rattle.cuts.specs.Digits.{span}

@@ -6,7 +6,7 @@ use Prim.Native.Nat.{ℕ, zero, suc, _+_}
 use lib.Dec.{ltb}
 use lib.ListN.{length, drop}
 use Rattle.record.specs.Record.{readingOf}
-use Rattle.record.specs.declared.Turn.the-variants as T
+use Rattle.kinds.specs.declared.Turn.the-variants as T
 use Rattle.region.specs.declared.Job.{Job}
 use Rattle.operator.specs.declared.Operator.{Operator}
 use Rattle.ranks.specs.Rest.{Place, at}

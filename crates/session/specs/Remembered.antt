@@ -11,10 +11,11 @@ use Rattle.operator.specs.declared.Operator.{Operator}
 use Rattle.operator.specs.declared.Check.{Check}
 use Rattle.operator.specs.declared.Check.the-variants.{Special, OutOfRange, OddParity, NotSpecial}
 use Rattle.operator.specs.Operator.{identity, inRange, evenParity, special, detWhole, detRoot, checkOf}
-use Rattle.record.specs.declared.Kind.{Kind}
-use Rattle.record.specs.declared.Kind.the-variants as K
-use Rattle.record.specs.declared.Turn.the-variants as T
-use Rattle.record.specs.Record.{readingOf, kindOf, kindReading, admissionOf, bodyOf, operatorOf as fieldsOf, operatorReading as checked}
+use Rattle.kinds.specs.declared.Kind.{Kind}
+use Rattle.kinds.specs.declared.Kind.the-variants as K
+use Rattle.kinds.specs.declared.Turn.the-variants as T
+use Rattle.kinds.specs.Kinds.{kindOf, admissionOf}
+use Rattle.record.specs.Record.{readingOf, kindReading, bodyOf, operatorOf as fieldsOf, operatorReading as checked}
 use Rattle.ranks.specs.Rest.{Place, at, ended}
 use Rattle.calls.specs.Session.{Reading, refuse, accept, Stage, part, whole, Call, reading, handOut, rewind, clear, plain, imageOf, shortest}
 use Rattle.calls.specs.Session.{early, walking, joined, remembered, step, after}

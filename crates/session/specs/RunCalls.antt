@@ -15,7 +15,7 @@ use Rattle.calls.specs.Rules.{verdict, verdicts, begin}
 use Rattle.calls.specs.Since.{sinceAfter, since, points, spaces, fullOf}
 use Rattle.calls.specs.Refused.{unrefused, granted, refused-same, refused-lent}
 use Rattle.calls.specs.Operators.{struck, isHandOut, isIndependent, picked}
-use Rattle.record.specs.declared.Refusal.{Refusal}
+use Rattle.kinds.specs.declared.Refusal.{Refusal}
 use Rattle.stages.specs.declared.Session.{Session}
 use Rattle.stages.specs.declared.Answer.the-variants as A
 use Rattle.stages.specs.World.{world}

@@ -5,7 +5,7 @@ use mathlib.Core.List.{[]}
 use Prim.Native.Nat.{ℕ}
 use native.Mathlib.Omega.{arith}
 use Rattle.ring.specs.declared.Point.{Point}
-use Rattle.record.specs.declared.Refusal.the-variants.{NoPattern}
+use Rattle.kinds.specs.declared.Refusal.the-variants.{NoPattern}
 use Rattle.shortest.specs.declared.Pattern.{Pattern}
 use Rattle.shortest.specs.declared.Pattern.the-variants as P
 use Rattle.shortest.specs.Pattern.{patternOf}

@@ -1,16 +1,14 @@
 // A session and its calls, by value: SPEC, "Walk" and "Calls". Each call's contract is one step of the model in `calls`.
 ghost use mathlib.Core.Path.{_≡_};
 ghost use mathlib.Core.List.{[]};
-ghost use Rattle.calls.specs.Session.{reading, rewind, clear, plain, imageOf, shortest, found};
-ghost use Rattle.stages.specs.World.{world, bestOf};
-ghost use Rattle.stages.specs.Session.{fresh, answerOf, Steps, Hands};
+ghost use Rattle.calls.specs.Session.{reading, rewind, clear, plain, imageOf, shortest};
+ghost use Rattle.stages.specs.Session.{fresh, Steps, Hands};
 
 mod hand;
 
 use record::Reading;
 use record::Refusal;
 use ring::Point;
-use shortest::Pattern;
 pub use stages::Answer;
 pub use stages::Outcome;
 pub use stages::Parts;
@@ -98,15 +96,6 @@ pub fn shortest(s: Session) -> Answer
     let g = s.stage;
     match g {
         Stage::Early(_) => Answer::Refused(Refusal::NoJob),
-        Stage::Walking(c) => least(shortest::of_job(c.job)),
-    }
-}
-
-fn least(p: Pattern) -> Answer
-    ensures { λ r. ⌜ answerOf [] r ≡ found world (bestOf p) ⌝ }
-{
-    match p {
-        Pattern::Found(k, u, t) => Answer::Least(k, u, t),
-        Pattern::Missing => Answer::Refused(Refusal::NoPattern),
+        Stage::Walking(c) => stages::least(shortest::of_job(c.job)),
     }
 }

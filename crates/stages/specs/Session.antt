@@ -6,12 +6,13 @@ use Prim.Native.Nat.{ℕ, _/_}
 use lib.IntN.{ℤ}
 use lib.ListN.{length, drop}
 use Rattle.ring.specs.declared.Point.{Point}
-use Rattle.record.specs.declared.Turn.{Turn}
-use Rattle.record.specs.declared.Turn.the-variants as T
-use Rattle.record.specs.declared.Refusal.{Refusal}
+use Rattle.kinds.specs.declared.Turn.{Turn}
+use Rattle.kinds.specs.declared.Turn.the-variants as T
+use Rattle.kinds.specs.declared.Refusal.{Refusal}
 use Rattle.record.specs.declared.Reading as D
 use Rattle.record.specs.declared.Reading.the-variants as RV
-use Rattle.record.specs.Record.{number, readingOf}
+use Rattle.kinds.specs.Kinds.{number}
+use Rattle.record.specs.Record.{readingOf}
 use Rattle.ranks.specs.Rest.{isEnded, ended-nil, leftAt}
 use Rattle.ranks.specs.Rank.{top}
 use Rattle.ranks.specs.Handed.{Gave}

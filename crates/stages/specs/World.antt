@@ -1,5 +1,6 @@
 -- The world of the sessions: the records, jobs, solutions and operators of SPEC, as `calls` asks for them.
-use Rattle.record.specs.Record.{number, readingOf, kindOf, pickKind, kindReading, admissionOf, kind-4}
+use Rattle.kinds.specs.Kinds.{number, kindOf, pickKind, admissionOf, kind-4}
+use Rattle.record.specs.Record.{readingOf, kindReading}
 use mathlib.Core.Path.{_≡_, refl, subst⁻¹}
 use mathlib.Core.Bool.{Bool, true, false, false≢true}
 use mathlib.Core.List.{List, [], _∷_}
@@ -18,9 +19,9 @@ use Rattle.operator.specs.Operator.{identity, imageOf}
 use Rattle.operator.specs.Inverse.{inverseOf}
 use Rattle.record.specs.declared.Record.{Record}
 use Rattle.record.specs.declared.Record.the-variants as R
-use Rattle.record.specs.declared.Turn.{Turn}
-use Rattle.record.specs.declared.Turn.the-variants as T
-use Rattle.record.specs.declared.Kind.the-variants as K
+use Rattle.kinds.specs.declared.Turn.{Turn}
+use Rattle.kinds.specs.declared.Turn.the-variants as T
+use Rattle.kinds.specs.declared.Kind.the-variants as K
 use Rattle.record.specs.declared.Reading as Read
 use Rattle.record.specs.declared.Reading.the-variants as RV
 use Rattle.ranks.specs.Rank.{top}

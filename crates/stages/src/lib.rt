@@ -1,5 +1,9 @@
 // What a session has read, what a call answers, and what both mean in the model of `calls`: SPEC, "Calls".
 ghost use mathlib.Core.Path.{_≡_};
+ghost use mathlib.Core.List.{[]};
+ghost use Rattle.calls.specs.Session.{found};
+ghost use Rattle.stages.specs.World.{world, bestOf};
+ghost use Rattle.stages.specs.Session.{answerOf};
 
 pub mod place;
 
@@ -8,6 +12,7 @@ use record::Refusal;
 use region::Job;
 use region::Region;
 use ring::Point;
+use shortest::Pattern;
 use walk::Spot;
 
 // A job with the place of its walk and the operator that is remembered.
@@ -58,5 +63,15 @@ pub fn refused(s: Session, f: Refusal) -> Outcome
     Outcome {
         session: s,
         answer: Answer::Refused(f),
+    }
+}
+
+// The answer that tells a shortest pattern.
+pub fn least(p: Pattern) -> Answer
+    ensures { λ r. ⌜ answerOf [] r ≡ found world (bestOf p) ⌝ }
+{
+    match p {
+        Pattern::Found(k, u, t) => Answer::Least(k, u, t),
+        Pattern::Missing => Answer::Refused(Refusal::NoPattern),
     }
 }

@@ -5,7 +5,7 @@ use mathlib.Core.List.{List, [], _∷_, _++_}
 use native.Mathlib.Omega.{arith}
 use lib.ListN.{length}
 use lib.Seq.{length-take-le}
-use Rattle.record.specs.Record.{number}
+use Rattle.kinds.specs.Kinds.{number}
 use Rattle.text.specs.Append.{Appended, appended, append-more}
 use Rattle.text.specs.Decimal.{decimal}
 use Rattle.listing.specs.Lines.{refusalLine, countText}

@@ -2,7 +2,7 @@
 ghost use mathlib.Core.Path.{_≡_};
 ghost use Prim.Native.Nat.{_+_, _^_, _<_, _≤_};
 ghost use lib.ListN.{length};
-ghost use Rattle.record.specs.Field.{unsignedAt, twos, signedAt};
+ghost use Rattle.fields.specs.Field.{unsignedAt, twos, signedAt};
 
 fn wide(x: u8) -> u32
     ensures { λ r. ⌜ (r ≡ x) × (r < 256) ⌝ }
@@ -10,14 +10,16 @@ fn wide(x: u8) -> u32
     x as u32
 }
 
-pub(crate) fn u16_at(s: &[u8], k: usize) -> u16
+// The unsigned number of two bytes from place k on.
+pub fn u16_at(s: &[u8], k: usize) -> u16
     requires { ⌜ k + 2 ≤ length (now s) ⌝ }
     ensures { λ r. ⌜ r ≡ unsignedAt 2 (now (s .entry)) k ⌝ }
 {
     (wide(s[k]) + 256 * wide(s[k + 1])) as u16
 }
 
-pub(crate) fn u32_at(s: &[u8], k: usize) -> u32
+// The unsigned number of four bytes.
+pub fn u32_at(s: &[u8], k: usize) -> u32
     requires { ⌜ k + 4 ≤ length (now s) ⌝ }
     ensures { λ r. ⌜ r ≡ unsignedAt 4 (now (s .entry)) k ⌝ }
 {
@@ -45,14 +47,16 @@ fn signed32(u: u32) -> i32
     }
 }
 
-pub(crate) fn i16_at(s: &[u8], k: usize) -> i16
+// The signed number of two bytes.
+pub fn i16_at(s: &[u8], k: usize) -> i16
     requires { ⌜ k + 2 ≤ length (now s) ⌝ }
     ensures { λ r. ⌜ r ≡ signedAt 2 (now (s .entry)) k ⌝ }
 {
     signed16(u16_at(s, k))
 }
 
-pub(crate) fn i32_at(s: &[u8], k: usize) -> i32
+// The signed number of four bytes.
+pub fn i32_at(s: &[u8], k: usize) -> i32
     requires { ⌜ k + 4 ≤ length (now s) ⌝ }
     ensures { λ r. ⌜ r ≡ signedAt 4 (now (s .entry)) k ⌝ }
 {

@@ -1,11 +1,11 @@
 use mathlib.Core.Bool.{Bool, true, false, not}
 use mathlib.Core.Path.{_≡_, refl}
 use borrow.Author.Tests.{not-true, not-false}
-use Rattle.record.specs.declared.Refusal.the-variants.{UnknownKind, OutOfTurn, Short}
-use Rattle.record.specs.declared.Admission.the-variants as A
-use Rattle.record.specs.Record.{admissionOf}
-use Rattle.record.proofs.admit.Statement.{statement}
-use Rattle.record.proofs.admit.Tie as tie
+use Rattle.kinds.specs.declared.Refusal.the-variants.{UnknownKind, OutOfTurn, Short}
+use Rattle.kinds.specs.declared.Admission.the-variants as A
+use Rattle.kinds.specs.Kinds.{admissionOf}
+use Rattle.kinds.proofs.admit.Statement.{statement}
+use Rattle.kinds.proofs.admit.Tie as tie
 
 -- the four answers, by the tests that the code makes
 module _ (known fits short : Bool) where

@@ -1,9 +1,9 @@
 use mathlib.Core.Path.{refl, sym}
 use native.Mathlib.Omega.{arith}
-use Rattle.record.specs.Record.{kind-1, kind-2, kind-3, kind-4, kind-5, kind-6, kind-unknown}
+use Rattle.kinds.specs.Kinds.{kind-1, kind-2, kind-3, kind-4, kind-5, kind-6, kind-unknown}
 use borrow.Author.Needs.{needs}
-use Rattle.record.proofs.kind_of.Statement.{statement}
-use Rattle.record.proofs.kind_of.Tie as tie
+use Rattle.kinds.proofs.kind_of.Statement.{statement}
+use Rattle.kinds.proofs.kind_of.Tie as tie
 
 returns : tie.Need-returns
 returns c = sym (kind-1 _ (c .match .keys1))

@@ -1,8 +1,8 @@
 use native.Mathlib.Omega.{arith}
 use borrow.Author.Needs.{needs}
-use Rattle.record.specs.Field.{four}
-use Rattle.record.proofs.field.u32_at.Statement.{statement}
-use Rattle.record.proofs.field.u32_at.Tie as tie
+use Rattle.fields.specs.Field.{four}
+use Rattle.fields.proofs.u32_at.Statement.{statement}
+use Rattle.fields.proofs.u32_at.Tie as tie
 
 u16-at-requires : tie.Need-u16-at-requires
 u16-at-requires c κs = search needs

@@ -8,7 +8,7 @@ use mir.Syntax.{Width}
 use mir.Val.{SFits, bits, hbits, toZ, ofZ}
 use mir.Facts.{toZ-ofZ, toZ-pos}
 use Rattle.integers.specs.Difference.{up, dn, +-spec, neg-up, neg-dn}
-use Rattle.record.specs.Field.{twos, less, twos-low, twos-high}
+use Rattle.fields.specs.Field.{twos, less, twos-low, twos-high}
 
 -- two numbers less than k apart
 near : (u m k : ℕ) → u < m + k → m ≤ u + k → mag (pos u -ℤ pos m) < k

@@ -1,8 +1,8 @@
 use native.Mathlib.Omega.{arith}
 use borrow.Author.Needs.{needs}
-use Rattle.record.specs.Field.{two}
-use Rattle.record.proofs.field.u16_at.Statement.{statement}
-use Rattle.record.proofs.field.u16_at.Tie as tie
+use Rattle.fields.specs.Field.{two}
+use Rattle.fields.proofs.u16_at.Statement.{statement}
+use Rattle.fields.proofs.u16_at.Tie as tie
 
 shared-slice-read-wide : tie.Need-shared-slice-read-wide
 shared-slice-read-wide c = search needs

@@ -2,9 +2,9 @@ use mathlib.Core.Path.{refl}
 use native.Mathlib.Omega.{arith}
 use mir.Syntax.{w16, w32}
 use borrow.Author.Needs.{needs}
-use Rattle.record.proofs.Twos.{low, wide, narrow, high}
-use Rattle.record.proofs.field.signed16.Statement.{statement}
-use Rattle.record.proofs.field.signed16.Tie as tie
+use Rattle.fields.proofs.Twos.{low, wide, narrow, high}
+use Rattle.fields.proofs.signed16.Statement.{statement}
+use Rattle.fields.proofs.signed16.Tie as tie
 
 cast-result : tie.Need-cast-result
 cast-result c = search needs

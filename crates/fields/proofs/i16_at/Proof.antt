@@ -2,9 +2,9 @@ use mathlib.Core.Path.{sym, _∙_, ap}
 use mir.Syntax.{w16}
 use borrow.Author.Needs.{needs}
 use Rattle.integers.specs.Size.{back}
-use Rattle.record.specs.Field.{twos, signed-is}
-use Rattle.record.proofs.field.i16_at.Statement.{statement}
-use Rattle.record.proofs.field.i16_at.Tie as tie
+use Rattle.fields.specs.Field.{twos, signed-is}
+use Rattle.fields.proofs.i16_at.Statement.{statement}
+use Rattle.fields.proofs.i16_at.Tie as tie
 
 u16-at-requires : tie.Need-u16-at-requires
 u16-at-requires c κs = search needs

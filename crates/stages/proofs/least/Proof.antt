@@ -1,7 +1,7 @@
 use mathlib.Core.Path.{refl}
 use borrow.Author.Needs.{needs}
-use Rattle.session.proofs.least.Statement.{statement}
-use Rattle.session.proofs.least.Tie as tie
+use Rattle.stages.proofs.least.Statement.{statement}
+use Rattle.stages.proofs.least.Tie as tie
 
 enum-known-p : tie.Need-enum-known-p
 enum-known-p c = search needs

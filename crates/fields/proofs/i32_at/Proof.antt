@@ -2,9 +2,9 @@ use mathlib.Core.Path.{sym, _∙_, ap}
 use mir.Syntax.{w32}
 use borrow.Author.Needs.{needs}
 use Rattle.integers.specs.Size.{back}
-use Rattle.record.specs.Field.{twos, signed-is}
-use Rattle.record.proofs.field.i32_at.Statement.{statement}
-use Rattle.record.proofs.field.i32_at.Tie as tie
+use Rattle.fields.specs.Field.{twos, signed-is}
+use Rattle.fields.proofs.i32_at.Statement.{statement}
+use Rattle.fields.proofs.i32_at.Tie as tie
 
 u32-at-requires : tie.Need-u32-at-requires
 u32-at-requires c κs = search needs
