@@ -9,9 +9,9 @@ use borrow.Author.Needs.{needs}
 use Rattle.integers.specs.Size.{size→fits}
 use Rattle.region.specs.Over.{scale, scale-limits}
 use Rattle.region.specs.Reach.{reachOf}
-use Rattle.shortest.specs.Apart.{reach-small, sum-sizes, apart-if}
-use Rattle.shortest.proofs.apart.ends_before.Statement.{statement}
-use Rattle.shortest.proofs.apart.ends_before.Tie as tie
+use Rattle.apart.specs.Apart.{reach-small, sum-sizes, apart-if}
+use Rattle.apart.proofs.ends_before.Statement.{statement}
+use Rattle.apart.proofs.ends_before.Tie as tie
 
 wide : {x z : ℤ} → x ≡ z → natAbs z ≤ 2 ^ 31 → toZ w64 (ofZ w64 x) ≡ z
 wide {x} {z} e h = ap (λ z. toZ w64 (ofZ w64 z)) e ∙ toZ-ofZ (size→fits (omega arith))

@@ -6,8 +6,8 @@ use lib.IntN.{_+ℤ_, _*ℤ_}
 use mathlib.Core.Path.{refl}
 use borrow.Author.Needs.{needs}
 use Rattle.integers.specs.Size.{size→fits}
-use Rattle.shortest.proofs.apart.is_below.Statement.{statement}
-use Rattle.shortest.proofs.apart.is_below.Tie as tie
+use Rattle.apart.proofs.is_below.Statement.{statement}
+use Rattle.apart.proofs.is_below.Tie as tie
 
 fits : (c : tie.Start) → let a = c .args in SFits w64 (a .m *ℤ a .h) × SFits w64 (a .n *ℤ a .g) × SFits w64 (a .m *ℤ a .h +ℤ a .n *ℤ a .g)
 fits c = (size→fits (omega (arith, c .pre .first)), size→fits (omega (arith, c .pre .second)), size→fits (omega (arith, c .pre .sum)))

@@ -11,21 +11,25 @@ use Rattle.integers.specs.Difference.{_≼_, _≺_}
 use Rattle.integers.specs.Order.{≺-irrefl}
 use Rattle.integers.specs.Size.{size-+, size-*≤}
 use Rattle.integers.specs.Ring.{poly, by-ring}
-use Rattle.ring.specs.declared.Point.{Point}
 use Rattle.ring.specs.declared.RootTwo.{RootTwo}
 use Rattle.ring.specs.RootTwo.{_⊞_, _⊟_, _⊠_, neg, num, ring√, num-+, num-*, num-neg}
 use Rattle.ring.specs.RootTwo.Order.{_⊑_, nn-by, nn-+, nn-*, nn-num, num-nn, nn-cancel}
 use Rattle.ring.specs.RootTwo.Power.{√2^, √2^-zero, √2^-nn, √2^-≤}
 use Rattle.region.specs.declared.Region.{Region}
-use Rattle.region.specs.declared.Job.{Job}
-use Rattle.region.specs.Region.{accepted, holds}
+use Rattle.region.specs.declared.Region.the-variants as R
+use Rattle.region.specs.Region.{accepted, checkOf, inRangeE, holds}
 use Rattle.region.specs.Over.{scale, scale-limits, Over}
 use Rattle.region.specs.Reach.{reachOf}
 use Rattle.region.specs.ReachOver.{reach-over, reach-size}
-use Rattle.region.specs.Membership.{solves-true}
 use Rattle.region.specs.Void.{isVoid, void-none}
-use Rattle.shortest.specs.Pattern.{qualifies}
-use Rattle.shortest.specs.Disk.{disk, qualifies-solves, qualifies-disks}
+
+-- the squares of X and Y add up to at most 1
+abbrev pub disk : Region
+disk = R.Ellipse (record { n = 1; cx = pos 0; cy = pos 0; p = 1; q = pos 0; r = 1; s = 1 })
+
+pub disk-accepted : accepted disk ≡ true
+unfolding accepted checkOf inRangeE
+disk-accepted = refl
 
 pub record Apart-if (r s : Region) (b : Bool) : Type 0 where
   pub none : b ≡ true → (k : ℕ) (X Y : RootTwo) → holds r (√2^ (suc k)) X Y ≡ true → holds s (√2^ (suc k)) X Y ≡ true → ⊥
@@ -94,10 +98,3 @@ module _ (r s : Region) (u v p q : ℤ) (a : accepted r ≡ true) (b : accepted 
         let over : Over s (negℤ u) (negℤ v) (reachOf s p q) = subst₂ (λ a b. Over s a b (reachOf s p q)) (o .first) (o .second) (reach-over s p q (omega arith) (omega arith)) in
         ≺-irrefl _ _ (record { lt = subst T (sym (sym f ∙ e)) tt }) (apart r s u v (reachOf r u v) (reachOf s p q) (reach-over r u v (omega arith) (omega arith)) over k X Y c d);
   }
-
--- ---- a job with such a region
-pub misses-a : (j : Job) {b : Bool} → Apart-if (j .a) disk b → b ≡ true → (v : Point) → qualifies j v ≡ true → ⊥
-misses-a j h e v q = h .none e (j .k) _ _ (solves-true j v (qualifies-solves j v q) .first) (solves-true _ v (qualifies-disks j v q) .first)
-
-pub misses-b : (j : Job) {b : Bool} → Apart-if (j .b) disk b → b ≡ true → (v : Point) → qualifies j v ≡ true → ⊥
-misses-b j h e v q = h .none e (j .k) _ _ (solves-true j v (qualifies-solves j v q) .second) (solves-true _ v (qualifies-disks j v q) .second)

@@ -1,8 +1,8 @@
 use mir.Facts.{toZ-ofZ}
 use borrow.Author.Needs.{needs}
-use Rattle.shortest.specs.Apart.{turned}
-use Rattle.shortest.proofs.apart.is_parted.Statement.{statement}
-use Rattle.shortest.proofs.apart.is_parted.Tie as tie
+use Rattle.apart.specs.Apart.{turned}
+use Rattle.apart.proofs.is_parted.Statement.{statement}
+use Rattle.apart.proofs.is_parted.Tie as tie
 
 ends-before-requires : tie.Need-ends-before-requires
 ends-before-requires c κs = search needs

@@ -1,10 +1,9 @@
 use mathlib.Core.Path.{sym, ap, subst, _∙_}
 use borrow.Author.Needs.{needs}
 use Rattle.region.specs.Region.{accepted}
-use Rattle.shortest.specs.Disk.{disk-accepted}
-use Rattle.shortest.specs.Apart.{Apart-if, void-apart}
-use Rattle.shortest.proofs.apart.misses_disk.Statement.{statement}
-use Rattle.shortest.proofs.apart.misses_disk.Tie as tie
+use Rattle.apart.specs.Apart.{disk-accepted, Apart-if, void-apart}
+use Rattle.apart.proofs.misses_disk.Statement.{statement}
+use Rattle.apart.proofs.misses_disk.Tie as tie
 
 is-void-requires : tie.Need-is-void-requires
 is-void-requires c κs = search needs
