@@ -17,7 +17,7 @@ use Rattle.text.specs.Written.{written, after}
 use Rattle.words.specs.declared.Size.{Size}
 use Rattle.text.proofs.Lengths.{decimal-length}
 use Rattle.text.proofs.Words.{value-below}
-use Rattle.listing.specs.Lines.{endLine, refusalLine, countText}
+use Rattle.list_lines.specs.Lines.{endLine, refusalLine, countText}
 use Rattle.printing.specs.declared.Piece.{Piece}
 use Rattle.printing.specs.Pieces.{State, done, Part, stateOf, partOf, pieceOf, Filled, FilledPart}
 

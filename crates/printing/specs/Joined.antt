@@ -15,7 +15,8 @@ use Rattle.walk.specs.Walk.{listedAt, full}
 use Rattle.walk.specs.Count.{full-fewer}
 use Rattle.calls.specs.Session.{early, walking}
 use Rattle.input.specs.Load.{Loaded, ready, refused, tooLong, loadOf}
-use Rattle.listing.specs.Lines.{linesOf, endLine, pageOf, roomIn}
+use Rattle.list_lines.specs.Lines.{linesOf, endLine}
+use Rattle.listing.specs.Page.{pageOf, roomIn}
 use Rattle.printing.specs.declared.Output.{Output}
 use Rattle.printing.specs.Output.{outputFor, outputOf}
 use Rattle.printing.specs.Pieces.{State, long, refusal, list, last, done, isDone, stateOf, begin, partOf, pieceOf, Filled, Printed, finished, piece, most, restOf}

@@ -7,7 +7,7 @@ use Rattle.walk.specs.Walk.{numbersOf}
 use Rattle.calls.specs.Since.{fullOf}
 use Rattle.stages.specs.World.{world}
 use Rattle.input.specs.Load.{Loaded, ready, refused, tooLong, loadOf}
-use Rattle.listing.specs.Lines.{linesOf, endLine, refusalLine}
+use Rattle.list_lines.specs.Lines.{linesOf, endLine, refusalLine}
 use Rattle.listing.specs.Page.{scaleOf}
 
 -- a longer input: `too long` alone

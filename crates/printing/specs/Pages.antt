@@ -15,7 +15,7 @@ use Rattle.operator.specs.declared.Operator.{Operator}
 use Rattle.walk.specs.Walk.{listedAt}
 use Rattle.calls.specs.Session.{walking}
 use Rattle.words.specs.Meaning.{sizeOf, wrapped}
-use Rattle.listing.specs.Lines.{linesOf, endLine}
+use Rattle.list_lines.specs.Lines.{linesOf, endLine}
 use Rattle.printing.specs.Output.{listLines}
 use Rattle.printing.specs.Pieces.{State, long, refusal, list, last, done, Part, kept, leftOf, most, restOf}
 

@@ -17,8 +17,8 @@ use Rattle.stages.specs.Session.{meaning}
 use Rattle.text.specs.Append.{Appended}
 use Rattle.words.specs.Meaning.{sizeOf, wrapped}
 use Rattle.input.specs.Load.{Loaded, ready, refused, tooLong}
-use Rattle.listing.specs.Lines.{pageOf, roomIn, endLine, refusalLine}
-use Rattle.listing.specs.Page.{scaleOf}
+use Rattle.list_lines.specs.Lines.{endLine, refusalLine}
+use Rattle.listing.specs.Page.{pageOf, roomIn, scaleOf}
 use Rattle.printing.specs.declared.Output.{Output}
 use Rattle.printing.specs.declared.Output.the-variants as O
 use Rattle.printing.specs.declared.Piece.{Piece}

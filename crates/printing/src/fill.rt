@@ -18,12 +18,12 @@ pub(crate) fn part(o: Output, out: &mut [u8]) -> Piece
             last(n)
         }
         Output::Refusal(f, at) => {
-            let n = listing::put_refusal(out, 0, f, at);
+            let n = list_lines::put_refusal(out, 0, f, at);
             last(n)
         }
         Output::List(s, total) => page(s, total, out),
         Output::Last(total) => {
-            let n = listing::put_end(out, 0, total);
+            let n = list_lines::put_end(out, 0, total);
             last(n)
         }
         Output::Done => last(0),

@@ -6,8 +6,7 @@ use native.Mathlib.Omega.{arith}
 use lib.ListN.{length, take}
 use lib.Seq.{length-take-le}
 use Rattle.stages.specs.Session.{meaning}
-use Rattle.listing.specs.Lines.{pageOf}
-use Rattle.listing.specs.Page.{Paged}
+use Rattle.listing.specs.Page.{pageOf, Paged}
 use borrow.Author.Needs.{needs}
 use Rattle.listing.proofs.page.next.Statement.{statement}
 use Rattle.listing.proofs.page.next.Tie as tie

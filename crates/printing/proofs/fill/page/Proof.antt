@@ -4,7 +4,7 @@ use mathlib.Core.Path.{_≡_, sym, ap, ap₂, _∙_}
 use lib.ListN.{length}
 use Rattle.stages.specs.Session.{meaning}
 use Rattle.words.specs.Meaning.{sizeOf, wrapped}
-use Rattle.listing.specs.Lines.{pageOf, roomIn}
+use Rattle.listing.specs.Page.{pageOf, roomIn}
 use Rattle.printing.specs.Pieces.{list, last, kept}
 use borrow.Author.Needs.{needs}
 use Rattle.printing.proofs.fill.page.Statement.{statement}

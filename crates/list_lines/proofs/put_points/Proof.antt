@@ -5,10 +5,10 @@ use native.Mathlib.Omega.{arith}
 use borrow.Author.Needs.{needs}
 use lib.ListN.{length, take}
 use Rattle.text.specs.Append.{Appended}
-use Rattle.listing.specs.Lines.{linesOf}
-use Rattle.listing.specs.More.{lines-none, lines-next}
-use Rattle.listing.proofs.page.put_points.Statement.{statement}
-use Rattle.listing.proofs.page.put_points.Tie as tie
+use Rattle.list_lines.specs.Lines.{linesOf}
+use Rattle.list_lines.specs.More.{lines-none, lines-next}
+use Rattle.list_lines.proofs.put_points.Statement.{statement}
+use Rattle.list_lines.proofs.put_points.Tie as tie
 
 abbrev Inv-loop : tie.InvT-loop
 Inv-loop out₀ points n k at₀ i₀ out at i = (i ≤ n) × (at ≤ 126 * i) × Appended out₀ 0 (linesOf k (take (4 * i) points)) out at

@@ -1,8 +1,8 @@
 -- `put_refusal` meets its contract. Assumes nothing.
 use mathlib.Core.Path.{sym}
 use borrow.Author.Needs.{needs}
-use Rattle.listing.proofs.page.put_refusal.Statement.{statement}
-use Rattle.listing.proofs.page.put_refusal.Tie as tie
+use Rattle.list_lines.proofs.put_refusal.Statement.{statement}
+use Rattle.list_lines.proofs.put_refusal.Tie as tie
 
 slice-aggregate-refusal-line : tie.Need-slice-aggregate-refusal-line
 slice-aggregate-refusal-line c = search needs

@@ -1,21 +1,11 @@
 -- The lines that the list program prints: SPEC, "List program".
-use mathlib.Core.Path.{_≡_, refl, ap, _∙_}
-use mathlib.Core.Bool.{Bool, true, false, not}
 use mathlib.Core.List.{List, [], _∷_, _++_}
-use Prim.Native.Nat.{ℕ, _+_, _*_, _/_, min}
+use Prim.Native.Nat.{ℕ, _+_, _*_}
 use lib.IntN.{ℤ, pos}
-use lib.ListN.{length, take, drop, getD}
+use lib.ListN.{getD}
 use Rattle.ring.specs.declared.Point.{Point}
 use Rattle.ring.specs.Point.Exponent.{exponentOf, pulseCount}
 use Rattle.text.specs.Decimal.{decimal, signedDecimal}
-use Rattle.ranks.specs.Rest.{at, ended, isNil, placeOf, rest}
-use Rattle.ranks.specs.Rank.{top}
-use Rattle.ranks.specs.Handed.{flat}
-use Rattle.cuts.specs.Digits.{span}
-use Rattle.walk.specs.Walk.{listedAt, numbersOf}
-use Rattle.calls.specs.Session.{early, walking}
-use Rattle.calls.specs.Session as Model
-use Rattle.stages.specs.World.{world}
 
 -- a coordinate and a space; a count and the mark after it
 unfoldable pub coordinateText : ℤ → List ℕ
@@ -48,29 +38,3 @@ endLine n = (101 ∷ 110 ∷ 100 ∷ 32 ∷ []) ++ countText n 10
 -- the line `refused R at P`
 unfoldable pub refusalLine : ℕ → ℕ → List ℕ
 refusalLine r p = (114 ∷ 101 ∷ 102 ∷ 117 ∷ 115 ∷ 101 ∷ 100 ∷ 32 ∷ []) ++ decimal r ++ (32 ∷ 97 ∷ 116 ∷ 32 ∷ []) ++ countText p 10
-
--- ---- a page: one hand-out with its lines
--- the room for points: no more than 1,024, and their lines fit
-abbrev pub roomIn : ℕ → ℕ
-roomIn n = min 1024 (n / 126)
-
-pub record Paging : Type 0 where
-  pub session : Model.Session world
-  pub count : ℕ
-  pub more : Bool
-  pub text : List ℕ
-
-abbrev nothing : Model.Session world → Paging
-nothing m = record { session = m; count = 0; more = false; text = [] }
-
-unfoldable pub pageOf : ℕ → Model.Session world → Paging
-pageOf room (early p) = nothing (early p)
-pageOf room (walking j ended o) = nothing (walking j ended o)
-pageOf room (walking j (at p) o) =
-    let left = rest (listedAt j) (top span) p in
-    record {
-      session = walking j (placeOf (drop room left)) o;
-      count = length (take room left);
-      more = not (isNil (drop room left));
-      text = linesOf (j .k) (flat numbersOf (take room left));
-    }

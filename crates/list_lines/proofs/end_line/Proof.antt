@@ -11,10 +11,10 @@ use Rattle.text.specs.Decimal.{decimal}
 use Rattle.words.specs.Meaning.{sizeOf}
 use Rattle.text.proofs.Lengths.{decimal-length}
 use Rattle.text.proofs.Words.{value-below}
-use Rattle.listing.specs.Lines.{endLine, countText}
+use Rattle.list_lines.specs.Lines.{endLine, countText}
 use borrow.Author.Needs.{needs}
-use Rattle.listing.proofs.page.end_line.Statement.{statement}
-use Rattle.listing.proofs.page.end_line.Tie as tie
+use Rattle.list_lines.proofs.end_line.Statement.{statement}
+use Rattle.list_lines.proofs.end_line.Tie as tie
 
 slice-aggregate-put-bytes : tie.Need-slice-aggregate-put-bytes
 slice-aggregate-put-bytes c = search needs

@@ -8,10 +8,10 @@ use lib.Seq.{length-take-le}
 use Rattle.kinds.specs.Kinds.{number}
 use Rattle.text.specs.Append.{Appended, appended, append-more}
 use Rattle.text.specs.Decimal.{decimal}
-use Rattle.listing.specs.Lines.{refusalLine, countText}
+use Rattle.list_lines.specs.Lines.{refusalLine, countText}
 use borrow.Author.Needs.{needs}
-use Rattle.listing.proofs.page.refusal_line.Statement.{statement}
-use Rattle.listing.proofs.page.refusal_line.Tie as tie
+use Rattle.list_lines.proofs.refusal_line.Statement.{statement}
+use Rattle.list_lines.proofs.refusal_line.Tie as tie
 
 abbrev refused : List ℕ
 refused = 114 ∷ 101 ∷ 102 ∷ 117 ∷ 115 ∷ 101 ∷ 100 ∷ 32 ∷ []

@@ -4,8 +4,8 @@ use Rattle.text.specs.Append.{appended}
 use Rattle.text.specs.Decimal.{decimal}
 use Rattle.text.proofs.Lengths.{unsigned-length}
 use borrow.Author.Needs.{needs}
-use Rattle.listing.proofs.page.put_number.Statement.{statement}
-use Rattle.listing.proofs.page.put_number.Tie as tie
+use Rattle.list_lines.proofs.put_number.Statement.{statement}
+use Rattle.list_lines.proofs.put_number.Tie as tie
 
 put-unsigned-requires : tie.Need-put-unsigned-requires
 put-unsigned-requires c κs = search needs

@@ -8,7 +8,7 @@ use lib.IntN.{ℤ}
 use lib.ListN.{length, take}
 use Rattle.ring.specs.declared.Point.{Point}
 use Rattle.text.specs.Append.{Appended, append-more}
-use Rattle.listing.specs.Lines.{pointLine, pointAt, linesOf}
+use Rattle.list_lines.specs.Lines.{pointLine, pointAt, linesOf}
 
 -- a point later in the list, the first one left out
 next-point : (a b c d : ℤ) (l : List ℤ) (i : ℕ) → pointAt (a ∷ b ∷ c ∷ d ∷ l) (suc i) ≡ pointAt l i

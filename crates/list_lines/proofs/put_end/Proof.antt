@@ -1,8 +1,8 @@
 -- `put_end` meets its contract. Assumes nothing.
 use mathlib.Core.Path.{sym}
 use borrow.Author.Needs.{needs}
-use Rattle.listing.proofs.page.put_end.Statement.{statement}
-use Rattle.listing.proofs.page.put_end.Tie as tie
+use Rattle.list_lines.proofs.put_end.Statement.{statement}
+use Rattle.list_lines.proofs.put_end.Tie as tie
 
 slice-aggregate-end-line : tie.Need-slice-aggregate-end-line
 slice-aggregate-end-line c = search needs

@@ -11,9 +11,9 @@ use lib.ListN.{length}
 use Rattle.ring.specs.declared.Point.{Point}
 use Rattle.ring.specs.Point.Exponent.{exponentOf, pulseCount}
 use Rattle.text.specs.Append.{Appended, append-more}
-use Rattle.listing.specs.Lines.{coordinateText, countText, pointLine}
-use Rattle.listing.proofs.page.put_point.Statement.{statement}
-use Rattle.listing.proofs.page.put_point.Tie as tie
+use Rattle.list_lines.specs.Lines.{coordinateText, countText, pointLine}
+use Rattle.list_lines.proofs.put_point.Statement.{statement}
+use Rattle.list_lines.proofs.put_point.Tie as tie
 
 numbers : Point → List ℕ
 numbers v = coordinateText (v .a) ++ coordinateText (v .b) ++ coordinateText (v .c) ++ coordinateText (v .d)

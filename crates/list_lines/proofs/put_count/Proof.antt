@@ -4,9 +4,9 @@ use borrow.Author.Needs.{needs}
 use Rattle.text.specs.Append.{marked}
 use Rattle.text.specs.Decimal.{decimal}
 use Rattle.text.proofs.Lengths.{unsigned-length}
-use Rattle.listing.specs.Lines.{countText}
-use Rattle.listing.proofs.page.put_count.Statement.{statement}
-use Rattle.listing.proofs.page.put_count.Tie as tie
+use Rattle.list_lines.specs.Lines.{countText}
+use Rattle.list_lines.proofs.put_count.Statement.{statement}
+use Rattle.list_lines.proofs.put_count.Tie as tie
 
 put-unsigned-requires : tie.Need-put-unsigned-requires
 put-unsigned-requires c κs = search needs

@@ -11,9 +11,9 @@ use borrow.Author.Needs.{needs}
 use Rattle.text.specs.Append.{marked}
 use Rattle.text.specs.Decimal.{signedDecimal}
 use Rattle.text.proofs.Lengths.{signed-length}
-use Rattle.listing.specs.Lines.{coordinateText}
-use Rattle.listing.proofs.page.put_coordinate.Statement.{statement}
-use Rattle.listing.proofs.page.put_coordinate.Tie as tie
+use Rattle.list_lines.specs.Lines.{coordinateText}
+use Rattle.list_lines.proofs.put_coordinate.Statement.{statement}
+use Rattle.list_lines.proofs.put_coordinate.Tie as tie
 
 fits : (s : tie.Start) → mag (s .args .z) < 2 ^ 63
 fits s = let h : SFits w32 (s .args .z) = search needs in lt-of-lt-of-le (h .sfits) (lit≤ tt)
