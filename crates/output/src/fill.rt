@@ -2,7 +2,7 @@
 ghost use mathlib.Core.Path.{_≡_};
 ghost use Prim.Native.Nat.{_≤_};
 ghost use lib.ListN.{length};
-ghost use Rattle.printing.specs.Pieces.{stateOf, done, FilledPart};
+ghost use Rattle.output.specs.Pieces.{stateOf, done, FilledPart};
 use crate::Output;
 use crate::Piece;
 use session::Session;

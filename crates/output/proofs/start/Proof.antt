@@ -2,10 +2,10 @@
 use mathlib.Core.Path.{sym, ap, _∙_}
 use Rattle.words.specs.Meaning.{sizeOf}
 use Rattle.input.specs.Load.{loadedOf}
-use Rattle.printing.specs.Pieces.{begin}
+use Rattle.output.specs.Pieces.{begin}
 use borrow.Author.Needs.{needs}
-use Rattle.printing.proofs.start.Statement.{statement}
-use Rattle.printing.proofs.start.Tie as tie
+use Rattle.output.proofs.start.Statement.{statement}
+use Rattle.output.proofs.start.Tie as tie
 
 load-requires : tie.Need-load-requires
 load-requires c κs = search needs

@@ -16,8 +16,8 @@ use Rattle.walk.specs.Walk.{listedAt}
 use Rattle.calls.specs.Session.{walking}
 use Rattle.words.specs.Meaning.{sizeOf, wrapped}
 use Rattle.list_lines.specs.Lines.{linesOf, endLine}
-use Rattle.printing.specs.Output.{listLines}
-use Rattle.printing.specs.Pieces.{State, long, refusal, list, last, done, Part, kept, leftOf, most, restOf}
+use Rattle.output.specs.Output.{listLines}
+use Rattle.output.specs.Pieces.{State, long, refusal, list, last, done, Part, kept, leftOf, most, restOf}
 
 -- ---- a number below 2^128 is kept
 two-words : (B n : ℕ) → 0 < B → n < B * B → n / B % B * B + n % B ≡ n

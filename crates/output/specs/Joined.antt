@@ -17,11 +17,11 @@ use Rattle.calls.specs.Session.{early, walking}
 use Rattle.input.specs.Load.{Loaded, ready, refused, tooLong, loadOf}
 use Rattle.list_lines.specs.Lines.{linesOf, endLine}
 use Rattle.listing.specs.Page.{pageOf, roomIn}
-use Rattle.printing.specs.declared.Output.{Output}
-use Rattle.printing.specs.Output.{outputFor, outputOf}
-use Rattle.printing.specs.Pieces.{State, long, refusal, list, last, done, isDone, stateOf, begin, partOf, pieceOf, Filled, Printed, finished, piece, most, restOf}
-use Rattle.printing.specs.Pages.{kept-same, Small, Goes, page-goes, page-less}
-use Rattle.printing.specs.Ready.{Begun, load-begun}
+use Rattle.output.specs.declared.Output.{Output}
+use Rattle.output.specs.Output.{outputFor, outputOf}
+use Rattle.output.specs.Pieces.{State, long, refusal, list, last, done, isDone, stateOf, begin, partOf, pieceOf, Filled, Printed, finished, piece, most, restOf}
+use Rattle.output.specs.Pages.{kept-same, Small, Goes, page-goes, page-less}
+use Rattle.output.specs.Ready.{Begun, load-begun}
 
 part-goes : (n : ℕ) (s : State) → Small s → Goes s (partOf n s)
 unfolding pageOf linesOf

@@ -18,8 +18,8 @@ use Rattle.words.specs.declared.Size.{Size}
 use Rattle.text.proofs.Lengths.{decimal-length}
 use Rattle.text.proofs.Words.{value-below}
 use Rattle.list_lines.specs.Lines.{endLine, refusalLine, countText}
-use Rattle.printing.specs.declared.Piece.{Piece}
-use Rattle.printing.specs.Pieces.{State, done, Part, stateOf, partOf, pieceOf, Filled, FilledPart}
+use Rattle.output.specs.declared.Piece.{Piece}
+use Rattle.output.specs.Pieces.{State, done, Part, stateOf, partOf, pieceOf, Filled, FilledPart}
 
 -- nothing at the start of a slice
 none-appended : (xs : List ℕ) → Appended xs 0 [] xs 0

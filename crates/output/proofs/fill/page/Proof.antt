@@ -5,10 +5,10 @@ use lib.ListN.{length}
 use Rattle.stages.specs.Session.{meaning}
 use Rattle.words.specs.Meaning.{sizeOf, wrapped}
 use Rattle.listing.specs.Page.{pageOf, roomIn}
-use Rattle.printing.specs.Pieces.{list, last, kept}
+use Rattle.output.specs.Pieces.{list, last, kept}
 use borrow.Author.Needs.{needs}
-use Rattle.printing.proofs.fill.page.Statement.{statement}
-use Rattle.printing.proofs.fill.page.Tie as tie
+use Rattle.output.proofs.fill.page.Statement.{statement}
+use Rattle.output.proofs.fill.page.Tie as tie
 
 next-requires : tie.Need-next-requires
 next-requires c κs = search needs

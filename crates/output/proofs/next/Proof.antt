@@ -1,9 +1,9 @@
 -- `next` meets its contract. Assumes nothing.
 use mathlib.Core.Path.{refl}
-use Rattle.printing.proofs.Lines.{filled-none, filled-part}
+use Rattle.output.proofs.Lines.{filled-none, filled-part}
 use borrow.Author.Needs.{needs}
-use Rattle.printing.proofs.next.Statement.{statement}
-use Rattle.printing.proofs.next.Tie as tie
+use Rattle.output.proofs.next.Statement.{statement}
+use Rattle.output.proofs.next.Tie as tie
 
 returns : tie.Need-returns
 returns c = filled-none _ _ _ (c .if1 .taken) refl refl

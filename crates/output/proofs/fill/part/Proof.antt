@@ -6,12 +6,12 @@ use native.Mathlib.Omega.{arith}
 use mir.Syntax.{w64}
 use mir.Val.{Fits}
 use lib.ListN.{length}
-use Rattle.printing.specs.declared.Output.{Output}
-use Rattle.printing.specs.Pieces.{Part, stateOf, partOf, FilledPart}
-use Rattle.printing.proofs.Lines.{line-part, none-part, refusal-short, end-short}
+use Rattle.output.specs.declared.Output.{Output}
+use Rattle.output.specs.Pieces.{Part, stateOf, partOf, FilledPart}
+use Rattle.output.proofs.Lines.{line-part, none-part, refusal-short, end-short}
 use borrow.Author.Needs.{needs}
-use Rattle.printing.proofs.fill.part.Statement.{statement}
-use Rattle.printing.proofs.fill.part.Tie as tie
+use Rattle.output.proofs.fill.part.Statement.{statement}
+use Rattle.output.proofs.fill.part.Tie as tie
 
 enum-told : tie.Need-enum-told
 enum-told c = search needs
