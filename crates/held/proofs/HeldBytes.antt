@@ -36,12 +36,12 @@ use denote.Triple.Entry.{onEntry}
 use denote.Triple.Spec.{Meets, tripleOf}
 use denote.Triple.Walked.{says, Stays, stay-none, stay-none-slice, walkOf, goes-none, goes-none-slice, ends-at, walked, walk-meets}
 use denote.Triple.Clauses.{Ended, Clauses, closing, ensured, Lasts, lasts}
-use Rattle.session.proofs.Session as S
-use Rattle.session.proofs.Session.Laws as S′
-use Rattle.session.proofs.Outcome as O
-use Rattle.session.proofs.Outcome.Laws as O′
-use Rattle.bench.proofs.Data.{Value, pair-ty, last, silent}
-use Rattle.bench.proofs.Types.{session, answer, outcome}
+use Rattle.stages.proofs.Session as S
+use Rattle.stages.proofs.Session.Laws as S′
+use Rattle.stages.proofs.Outcome as O
+use Rattle.stages.proofs.Outcome.Laws as O′
+use Rattle.lent.proofs.Data.{Value, pair-ty, last, silent}
+use Rattle.lent.proofs.Types.{session, answer, outcome}
 use Rattle.held.proofs.Local.{lends, back}
 use Rattle.held.proofs.Outcome.{val, own, cell, ref, out, out-is}
 

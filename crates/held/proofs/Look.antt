@@ -30,10 +30,10 @@ use denote.Triple.Entry.{onEntry}
 use denote.Triple.Spec.{Meets, tripleOf}
 use denote.Triple.Walked.{says, Stays, stay-none, walkOf, goes-none, ends-at, walked, walk-meets}
 use denote.Triple.Clauses.{Ended, Clauses, closing, ensured, lasts}
-use Rattle.session.proofs.Session as S
-use Rattle.session.proofs.Session.Laws as S′
-use Rattle.bench.proofs.Data.{Value, last, silent}
-use Rattle.bench.proofs.Types.{session, answer}
+use Rattle.stages.proofs.Session as S
+use Rattle.stages.proofs.Session.Laws as S′
+use Rattle.lent.proofs.Data.{Value, last, silent}
+use Rattle.lent.proofs.Types.{session, answer}
 use Rattle.held.proofs.Local.{lends-shr, shr-back}
 use Rattle.held.proofs.Outcome.{val, own, cell, ref}
 

@@ -9,10 +9,10 @@ use denote.Laws.{Is}
 use denote.Ref.{RefT}
 use denote.Steps.{only}
 use denote.Struct.Laws as LL
-use Rattle.session.proofs.Outcome as O
-use Rattle.session.proofs.Outcome.Laws as O′
-use Rattle.bench.proofs.Data.{Value}
-use Rattle.bench.proofs.Types.{session, answer, outcome}
+use Rattle.stages.proofs.Outcome as O
+use Rattle.stages.proofs.Outcome.Laws as O′
+use Rattle.lent.proofs.Data.{Value}
+use Rattle.lent.proofs.Types.{session, answer, outcome}
 
 abbrev pub val : Value session → Val
 val = session .val

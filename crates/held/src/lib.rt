@@ -1,7 +1,7 @@
-// A session of one's own, lent to the calls of the bench: each takes the session, lends it for the call, and has it back with the answer.
+// A session of one's own, lent to the calls of `lent`: each takes the session, lends it for the call, and has it back with the answer.
 ghost use mathlib.Core.List.{[]};
 ghost use Rattle.calls.specs.Session.{reading, rewind as rewinding, clear as clearing, plain, imageOf, shortest as shortestOf};
-ghost use Rattle.session.specs.Session.{Steps, Hands};
+ghost use Rattle.stages.specs.Session.{Steps, Hands};
 use ring::Point;
 use session::Answer;
 use session::Outcome;
@@ -11,7 +11,7 @@ pub fn read(s: Session, bytes: &[u8]) -> Outcome
     ensures { λ r. ⌜ Steps (reading (now (bytes .entry))) [] s (r .session) (r .answer) ⌝ }
 {
     let mut left = s;
-    let answer = bench::read(&mut left, bytes);
+    let answer = lent::read(&mut left, bytes);
     Outcome {
         session: left,
         answer: answer,
@@ -22,7 +22,7 @@ pub fn hand_out(s: Session, out: &mut [i32]) -> Outcome
     ensures { λ r. ⌜ Hands s (now (out .entry)) (now (out .exit)) (r .session) (r .answer) ⌝ }
 {
     let mut left = s;
-    let answer = bench::hand_out(&mut left, out);
+    let answer = lent::hand_out(&mut left, out);
     Outcome {
         session: left,
         answer: answer,
@@ -33,7 +33,7 @@ pub fn rewind(s: Session) -> Outcome
     ensures { λ r. ⌜ Steps rewinding [] s (r .session) (r .answer) ⌝ }
 {
     let mut left = s;
-    let answer = bench::rewind(&mut left);
+    let answer = lent::rewind(&mut left);
     Outcome {
         session: left,
         answer: answer,
@@ -44,7 +44,7 @@ pub fn clear(s: Session) -> Outcome
     ensures { λ r. ⌜ Steps clearing [] s (r .session) (r .answer) ⌝ }
 {
     let mut left = s;
-    let answer = bench::clear(&mut left);
+    let answer = lent::clear(&mut left);
     Outcome {
         session: left,
         answer: answer,
@@ -54,17 +54,17 @@ pub fn clear(s: Session) -> Outcome
 pub fn has_solution(s: Session) -> Answer
     ensures { λ r. ⌜ Steps plain [] s s r ⌝ }
 {
-    bench::has_solution(&s)
+    lent::has_solution(&s)
 }
 
 pub fn has_image(s: Session, w: Point) -> Answer
     ensures { λ r. ⌜ Steps (imageOf w) [] s s r ⌝ }
 {
-    bench::has_image(&s, w)
+    lent::has_image(&s, w)
 }
 
 pub fn shortest(s: Session) -> Answer
     ensures { λ r. ⌜ Steps shortestOf [] s s r ⌝ }
 {
-    bench::shortest(&s)
+    lent::shortest(&s)
 }

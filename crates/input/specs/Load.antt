@@ -5,11 +5,11 @@ use mathlib.Core.List.{List, [], _∷_}
 use Prim.Native.Nat.{ℕ, zero, suc, _+_, _≤_}
 use lib.Dec.{ltb}
 use lib.ListN.{length, drop}
-use Rattle.record.specs.Record.{number}
+use Rattle.kinds.specs.Kinds.{number}
 use Rattle.calls.specs.Session.{reading, taken, handed, done, says, best, early, walking, step}
 use Rattle.calls.specs.Session as Model
-use Rattle.session.specs.World.{world}
-use Rattle.session.specs.Session.{meaning, fresh}
+use Rattle.stages.specs.World.{world}
+use Rattle.stages.specs.Session.{meaning, fresh}
 use Rattle.input.specs.declared.Input.{Input}
 use Rattle.input.specs.declared.Input.the-variants as I
 

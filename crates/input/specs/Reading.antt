@@ -10,7 +10,7 @@ use Rattle.record.specs.declared.Reading as D
 use Rattle.record.specs.declared.Reading.the-variants as RV
 use Rattle.record.specs.declared.Record.{Record}
 use Rattle.record.specs.declared.Record.the-variants as R
-use Rattle.record.specs.declared.Turn.the-variants as T
+use Rattle.kinds.specs.declared.Turn.the-variants as T
 use Rattle.record.specs.Record.{readingOf}
 use Rattle.record.specs.Taken.{reading-takes}
 use Rattle.calls.specs.Session.{reading, refused, taken, handed, done, says, early, walking, step, joined, remembered}
@@ -20,10 +20,10 @@ use mathlib.Core.Bool.{Bool}
 use Rattle.region.specs.declared.Region.{Region}
 use Rattle.region.specs.declared.Job.{Job}
 use Rattle.operator.specs.declared.Operator.{Operator}
-use Rattle.session.specs.declared.Parts.{Parts}
-use Rattle.session.specs.declared.Parts.the-variants.{Nothing, Scaled, Selected, First}
-use Rattle.session.specs.World.{world, turnAt, placeScale, placeSelection, placeRegion, place, note, partReading, operatorReading}
-use Rattle.session.specs.Session.{meaning, fresh}
+use Rattle.stages.specs.declared.Parts.{Parts}
+use Rattle.stages.specs.declared.Parts.the-variants.{Nothing, Scaled, Selected, First}
+use Rattle.stages.specs.World.{world, turnAt, placeScale, placeSelection, placeRegion, place, note, partReading, operatorReading}
+use Rattle.stages.specs.Session.{meaning, fresh}
 use Rattle.input.specs.Load.{Loaded, tooLong, finished, onward, records, most, loadOf}
 
 Bounds : ℕ → List ℕ → Type 0

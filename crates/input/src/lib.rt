@@ -1,7 +1,7 @@
 // What a whole input comes to: SPEC, "List program".
 ghost use mathlib.Core.Path.{_≡_};
 ghost use lib.ListN.{length};
-ghost use Rattle.session.specs.Session.{meaning, fresh};
+ghost use Rattle.stages.specs.Session.{meaning, fresh};
 ghost use Rattle.input.specs.Load.{loadedOf, loadOf};
 ghost use Rattle.input.specs.Load.{records as recordsOf, finished as finishedAt};
 use record::Refusal;

@@ -14,9 +14,9 @@ use Rattle.cuts.specs.Digits.{span}
 use Rattle.walk.specs.Walk.{listedAt, numbersOf}
 use Rattle.calls.specs.Session.{handOut, refused, taken, handed, done, says, best, early, walking, step}
 use Rattle.calls.specs.Session as Model
-use Rattle.session.specs.World.{world}
-use Rattle.listing.specs.Lines.{Paging, linesOf, pageOf}
-use Rattle.listing.specs.Page.{scaleOf}
+use Rattle.stages.specs.World.{world}
+use Rattle.list_lines.specs.Lines.{linesOf}
+use Rattle.listing.specs.Page.{Paging, pageOf, scaleOf}
 
 abbrev pub isHanded : Model.Answer world → Bool
 isHanded (refused r) = false

@@ -1,5 +1,3 @@
--- What the contracts of `listing` cite: the lines, and a hand-out with them.
-pub mod Lines
+-- What the contracts of `listing` cite: a hand-out with its lines.
 pub mod Page
-pub mod More
 pub mod Given

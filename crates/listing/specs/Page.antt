@@ -1,15 +1,46 @@
--- What a page of lines says of its hand-out.
+-- A page, one hand-out with its lines, and what it says of the hand-out.
 use mathlib.Core.Path.{_≡_}
-use mathlib.Core.List.{List}
-use Prim.Native.Nat.{ℕ}
-use lib.ListN.{length}
+use mathlib.Core.Bool.{Bool, false, not}
+use mathlib.Core.List.{List, []}
+use Prim.Native.Nat.{ℕ, _/_, min}
+use lib.ListN.{length, take, drop}
+use Rattle.ranks.specs.Rest.{at, ended, isNil, placeOf, rest}
+use Rattle.ranks.specs.Rank.{top}
+use Rattle.ranks.specs.Handed.{flat}
+use Rattle.cuts.specs.Digits.{span}
+use Rattle.walk.specs.Walk.{listedAt, numbersOf}
 use Rattle.text.specs.Append.{Appended}
+use Rattle.list_lines.specs.Lines.{linesOf}
 use Rattle.calls.specs.Session.{early, walking}
 use Rattle.calls.specs.Session as Model
-use Rattle.session.specs.World.{world}
-use Rattle.session.specs.Session.{meaning}
+use Rattle.stages.specs.World.{world}
+use Rattle.stages.specs.Session.{meaning}
 use Rattle.listing.specs.declared.page.Page.{Page}
-use Rattle.listing.specs.Lines.{Paging}
+
+-- the room for points: no more than 1,024, and their lines fit
+abbrev pub roomIn : ℕ → ℕ
+roomIn n = min 1024 (n / 126)
+
+pub record Paging : Type 0 where
+  pub session : Model.Session world
+  pub count : ℕ
+  pub more : Bool
+  pub text : List ℕ
+
+abbrev nothing : Model.Session world → Paging
+nothing m = record { session = m; count = 0; more = false; text = [] }
+
+unfoldable pub pageOf : ℕ → Model.Session world → Paging
+pageOf room (early p) = nothing (early p)
+pageOf room (walking j ended o) = nothing (walking j ended o)
+pageOf room (walking j (at p) o) =
+    let left = rest (listedAt j) (top span) p in
+    record {
+      session = walking j (placeOf (drop room left)) o;
+      count = length (take room left);
+      more = not (isNil (drop room left));
+      text = linesOf (j .k) (flat numbersOf (take room left));
+    }
 
 -- the page r, with its text at the start of the slice that it was lent
 pub record Paged (p : Paging) (r : Page) (old new : List ℕ) : Type 0 where

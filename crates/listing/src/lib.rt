@@ -3,5 +3,3 @@ mod page;
 
 pub use page::Page;
 pub use page::next;
-pub use page::put_end;
-pub use page::put_refusal;

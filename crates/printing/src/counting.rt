@@ -3,7 +3,7 @@ ghost use mathlib.Core.Path.{_≡_};
 ghost use mathlib.Core.Bool.{true};
 ghost use Prim.Native.Nat.{_<_};
 ghost use lib.ListN.{length};
-ghost use Rattle.session.specs.Session.{meaning};
+ghost use Rattle.stages.specs.Session.{meaning};
 ghost use Rattle.listing.specs.Given.{leftOf};
 use listing::Page;
 use session::Answer;

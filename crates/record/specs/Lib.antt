@@ -1,4 +1,3 @@
 -- What one reading of a job's bytes is.
-pub mod Field
 pub mod Record
 pub mod Taken

@@ -16,19 +16,20 @@ use Rattle.operator.specs.declared.Operator.{Operator}
 use Rattle.operator.specs.declared.Check.the-variants as O
 use Rattle.operator.specs.declared.Check as OperatorCheck
 use Rattle.operator.specs.Operator as Op
-use Rattle.record.specs.declared.Kind.{Kind}
-use Rattle.record.specs.declared.Kind.the-variants as K
-use Rattle.record.specs.declared.Turn.{Turn}
+use Rattle.kinds.specs.declared.Kind.{Kind}
+use Rattle.kinds.specs.declared.Kind.the-variants as K
+use Rattle.kinds.specs.declared.Turn.{Turn}
 use Rattle.record.specs.declared.Record.{Record}
 use Rattle.record.specs.declared.Record.the-variants as Rec
-use Rattle.record.specs.declared.Refusal.{Refusal}
-use Rattle.record.specs.declared.Refusal.the-variants.{OutOfRange}
-use Rattle.record.specs.declared.Admission.{Admission}
-use Rattle.record.specs.declared.Admission.the-variants as A
+use Rattle.kinds.specs.declared.Refusal.{Refusal}
+use Rattle.kinds.specs.declared.Refusal.the-variants.{OutOfRange}
+use Rattle.kinds.specs.declared.Admission.{Admission}
+use Rattle.kinds.specs.declared.Admission.the-variants as A
 use Rattle.record.specs.declared.Reading.{Reading}
 use Rattle.record.specs.declared.Reading.the-variants.{Accepted, Refused}
-use Rattle.record.specs.Field.{unsignedAt}
-use Rattle.record.specs.Record.{pick, bodyLength, bodyOf, scaleOf, selectionOf, rectangleOf, ellipseOf, sliceOf, operatorOf, regionReading, operatorReading, isKnown, inTurn, admissionOf, admitted, kindReading, kindOf, readingOf, whole-long}
+use Rattle.fields.specs.Field.{unsignedAt}
+use Rattle.kinds.specs.Kinds.{bodyLength, isKnown, inTurn, admissionOf, kindOf, whole-long}
+use Rattle.record.specs.Record.{pick, bodyOf, scaleOf, selectionOf, rectangleOf, ellipseOf, sliceOf, operatorOf, regionReading, operatorReading, admitted, kindReading, readingOf}
 
 module _ (x : Record) (n : ℕ) where
   never : {P : Type 0} (f : Refusal) → Refused f ≡ Accepted x n → P

@@ -5,35 +5,17 @@ ghost use Prim.Native.Nat.{_≤_, _<_};
 ghost use lib.ListN.{length};
 ghost use Rattle.region.specs.Region.{checkOf as regionCheck};
 ghost use Rattle.operator.specs.Operator.{checkOf as operatorCheck};
-ghost use Rattle.record.specs.Record.{number as numberOf};
-ghost use Rattle.record.specs.Record.{Reads, admissionOf, kindOf, isKnown, inTurn, isScale, isSelection, isRegion, isOperators, bodyLength, bodyOf, scaleOf, selectionOf, rectangleOf, ellipseOf, sliceOf, operatorOf, regionReading, operatorReading};
+ghost use Rattle.kinds.specs.Kinds.{bodyLength};
+ghost use Rattle.record.specs.Record.{Reads, bodyOf, scaleOf, selectionOf, rectangleOf, ellipseOf, sliceOf, operatorOf, regionReading, operatorReading};
+use kinds::Admission;
+use kinds::Kind;
+pub use kinds::Refusal;
+pub use kinds::Turn;
 use operator::Operator;
 use region::Ellipse;
 use region::Rectangle;
 use region::Region;
 use region::Slice;
-
-mod field;
-
-// What the first byte of a record says.
-pub enum Kind {
-    Scale,
-    Rectangle,
-    Ellipse,
-    Slice,
-    Operator,
-    Selection,
-    Unknown,
-}
-
-// What a job waits for: after the scale it is the selection or region A, after the selection only A.
-pub enum Turn {
-    Scale,
-    Selection,
-    First,
-    Second,
-    Operators,
-}
 
 pub enum Record {
     Scale(u8),
@@ -43,53 +25,10 @@ pub enum Record {
     Operator(Operator),
 }
 
-// The refusals of SPEC, "Refusals"; their numbers are `number` of specs/Record.
-pub enum Refusal {
-    NoKind,
-    UnknownKind,
-    Short,
-    OutOfRange,
-    NotPositive,
-    OddParity,
-    NotSpecial,
-    OutOfTurn,
-    NoJob,
-    Ended,
-    NoDirection,
-    NoPattern,
-}
-
-impl Refusal {
-    pub fn number(self) -> u8
-        ensures { λ r. ⌜ r ≡ numberOf self ⌝ }
-    {
-        match self {
-            Refusal::NoKind => 1,
-            Refusal::UnknownKind => 2,
-            Refusal::Short => 3,
-            Refusal::OutOfRange => 4,
-            Refusal::NotPositive => 5,
-            Refusal::OddParity => 6,
-            Refusal::NotSpecial => 7,
-            Refusal::OutOfTurn => 8,
-            Refusal::NoJob => 9,
-            Refusal::Ended => 10,
-            Refusal::NoDirection => 11,
-            Refusal::NoPattern => 14,
-        }
-    }
-}
-
 // A record and the bytes it took, or the refusal, which takes none.
 pub enum Reading {
     Accepted(Record, usize),
     Refused(Refusal),
-}
-
-// Whether a body is read, or what is refused before.
-enum Admission {
-    Refused(Refusal),
-    Whole,
 }
 
 // One reading.
@@ -99,132 +38,11 @@ pub fn read(bytes: &[u8], turn: Turn) -> Reading
     if bytes.len() == 0 {
         return Reading::Refused(Refusal::NoKind);
     }
-    let kind = kind_of(bytes[0]);
-    let short = bytes.len() - 1 < body_length(kind);
-    match admit(is_known(kind), in_turn(kind, turn), short) {
+    let kind = kinds::kind_of(bytes[0]);
+    let short = bytes.len() - 1 < kinds::body_length(kind);
+    match kinds::admit(kinds::is_known(kind), kinds::in_turn(kind, turn), short) {
         Admission::Refused(why) => Reading::Refused(why),
         Admission::Whole => body(kind, &bytes[1..]),
-    }
-}
-
-// What is refused before the body is read, in the order 2, 8, 3.
-fn admit(known: bool, fits: bool, short: bool) -> Admission
-    ensures { λ r. ⌜ r ≡ admissionOf known fits short ⌝ }
-{
-    if !known {
-        return Admission::Refused(Refusal::UnknownKind);
-    }
-    if !fits {
-        return Admission::Refused(Refusal::OutOfTurn);
-    }
-    if short {
-        return Admission::Refused(Refusal::Short);
-    }
-    Admission::Whole
-}
-
-fn kind_of(b: u8) -> Kind
-    ensures { λ r. ⌜ r ≡ kindOf b ⌝ }
-{
-    match b {
-        1 => Kind::Scale,
-        2 => Kind::Rectangle,
-        3 => Kind::Ellipse,
-        4 => Kind::Operator,
-        5 => Kind::Slice,
-        6 => Kind::Selection,
-        _ => Kind::Unknown,
-    }
-}
-
-fn is_known(kind: Kind) -> bool
-    ensures { λ r. ⌜ r ≡ isKnown kind ⌝ }
-{
-    match kind {
-        Kind::Scale => true,
-        Kind::Rectangle => true,
-        Kind::Ellipse => true,
-        Kind::Slice => true,
-        Kind::Operator => true,
-        Kind::Selection => true,
-        Kind::Unknown => false,
-    }
-}
-
-// Whether a kind stands in its turn.
-fn in_turn(kind: Kind, turn: Turn) -> bool
-    ensures { λ r. ⌜ r ≡ inTurn kind turn ⌝ }
-{
-    match kind {
-        Kind::Scale => is_scale(turn),
-        Kind::Rectangle => is_region(turn),
-        Kind::Ellipse => is_region(turn),
-        Kind::Slice => is_region(turn),
-        Kind::Operator => is_operators(turn),
-        Kind::Selection => is_selection(turn),
-        Kind::Unknown => false,
-    }
-}
-
-fn is_scale(turn: Turn) -> bool
-    ensures { λ r. ⌜ r ≡ isScale turn ⌝ }
-{
-    match turn {
-        Turn::Scale => true,
-        Turn::Selection => false,
-        Turn::First => false,
-        Turn::Second => false,
-        Turn::Operators => false,
-    }
-}
-
-fn is_selection(turn: Turn) -> bool
-    ensures { λ r. ⌜ r ≡ isSelection turn ⌝ }
-{
-    match turn {
-        Turn::Scale => false,
-        Turn::Selection => true,
-        Turn::First => false,
-        Turn::Second => false,
-        Turn::Operators => false,
-    }
-}
-
-fn is_region(turn: Turn) -> bool
-    ensures { λ r. ⌜ r ≡ isRegion turn ⌝ }
-{
-    match turn {
-        Turn::Scale => false,
-        Turn::Selection => true,
-        Turn::First => true,
-        Turn::Second => true,
-        Turn::Operators => false,
-    }
-}
-
-fn is_operators(turn: Turn) -> bool
-    ensures { λ r. ⌜ r ≡ isOperators turn ⌝ }
-{
-    match turn {
-        Turn::Scale => false,
-        Turn::Selection => false,
-        Turn::First => false,
-        Turn::Second => false,
-        Turn::Operators => true,
-    }
-}
-
-fn body_length(kind: Kind) -> usize
-    ensures { λ r. ⌜ r ≡ bodyLength kind ⌝ }
-{
-    match kind {
-        Kind::Scale => 1,
-        Kind::Rectangle => 18,
-        Kind::Ellipse => 20,
-        Kind::Slice => 10,
-        Kind::Operator => 16,
-        Kind::Selection => 1,
-        Kind::Unknown => 0,
     }
 }
 
@@ -272,11 +90,11 @@ fn rectangle_at(s: &[u8]) -> Rectangle
     ensures { λ r. ⌜ r ≡ rectangleOf (now (s .entry)) ⌝ }
 {
     Rectangle {
-        n: field::u16_at(s, 0),
-        xl: field::i32_at(s, 2),
-        xh: field::i32_at(s, 6),
-        yl: field::i32_at(s, 10),
-        yh: field::i32_at(s, 14),
+        n: fields::u16_at(s, 0),
+        xl: fields::i32_at(s, 2),
+        xh: fields::i32_at(s, 6),
+        yl: fields::i32_at(s, 10),
+        yh: fields::i32_at(s, 14),
     }
 }
 
@@ -285,13 +103,13 @@ fn ellipse_at(s: &[u8]) -> Ellipse
     ensures { λ r. ⌜ r ≡ ellipseOf (now (s .entry)) ⌝ }
 {
     Ellipse {
-        n: field::u16_at(s, 0),
-        cx: field::i32_at(s, 2),
-        cy: field::i32_at(s, 6),
-        p: field::u16_at(s, 10),
-        q: field::i16_at(s, 12),
-        r: field::u16_at(s, 14),
-        s: field::u32_at(s, 16),
+        n: fields::u16_at(s, 0),
+        cx: fields::i32_at(s, 2),
+        cy: fields::i32_at(s, 6),
+        p: fields::u16_at(s, 10),
+        q: fields::i16_at(s, 12),
+        r: fields::u16_at(s, 14),
+        s: fields::u32_at(s, 16),
     }
 }
 
@@ -300,10 +118,10 @@ fn slice_at(s: &[u8]) -> Slice
     ensures { λ r. ⌜ r ≡ sliceOf (now (s .entry)) ⌝ }
 {
     Slice {
-        n: field::u16_at(s, 0),
-        zx: field::i16_at(s, 2),
-        zy: field::i16_at(s, 4),
-        w: field::i32_at(s, 6),
+        n: fields::u16_at(s, 0),
+        zx: fields::i16_at(s, 2),
+        zy: fields::i16_at(s, 4),
+        w: fields::i32_at(s, 6),
     }
 }
 
@@ -312,14 +130,14 @@ fn operator_at(s: &[u8]) -> Operator
     ensures { λ r. ⌜ r ≡ operatorOf (now (s .entry)) ⌝ }
 {
     Operator {
-        a: field::i16_at(s, 0),
-        b: field::i16_at(s, 2),
-        c: field::i16_at(s, 4),
-        d: field::i16_at(s, 6),
-        ai: field::i16_at(s, 8),
-        bi: field::i16_at(s, 10),
-        ci: field::i16_at(s, 12),
-        di: field::i16_at(s, 14),
+        a: fields::i16_at(s, 0),
+        b: fields::i16_at(s, 2),
+        c: fields::i16_at(s, 4),
+        d: fields::i16_at(s, 6),
+        ai: fields::i16_at(s, 8),
+        bi: fields::i16_at(s, 10),
+        ci: fields::i16_at(s, 12),
+        di: fields::i16_at(s, 14),
     }
 }
 

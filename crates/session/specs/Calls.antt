@@ -17,8 +17,8 @@ use Rattle.calls.specs.Refused.{NotMade, not-made}
 use Rattle.calls.specs.Operators.{struck, isHandOut, isIndependent, picked, alike-hand-outs, alike-others}
 use Rattle.calls.specs.Remembered.{operatorOf, lastAccepted, last-remembered}
 use Rattle.operator.specs.Operator.{identity}
-use Rattle.session.specs.World.{world}
-use Rattle.session.specs.Session.{meaning, fresh}
+use Rattle.stages.specs.World.{world}
+use Rattle.stages.specs.Session.{meaning, fresh}
 
 abbrev Calls : Type 0
 Calls = List (Call world)

@@ -1,7 +1,3 @@
-pub mod World
-pub mod Session
-pub mod Meaning
-pub mod Image
 pub mod Calls
 pub mod Remembered
 pub mod Run

@@ -11,18 +11,19 @@ use Rattle.operator.specs.declared.Operator.{Operator}
 use Rattle.operator.specs.declared.Check.{Check}
 use Rattle.operator.specs.declared.Check.the-variants.{Special, OutOfRange, OddParity, NotSpecial}
 use Rattle.operator.specs.Operator.{identity, inRange, evenParity, special, detWhole, detRoot, checkOf}
-use Rattle.record.specs.declared.Kind.{Kind}
-use Rattle.record.specs.declared.Kind.the-variants as K
-use Rattle.record.specs.declared.Turn.the-variants as T
-use Rattle.record.specs.Record.{readingOf, kindOf, kindReading, admissionOf, bodyOf, operatorOf as fieldsOf, operatorReading as checked}
+use Rattle.kinds.specs.declared.Kind.{Kind}
+use Rattle.kinds.specs.declared.Kind.the-variants as K
+use Rattle.kinds.specs.declared.Turn.the-variants as T
+use Rattle.kinds.specs.Kinds.{kindOf, admissionOf}
+use Rattle.record.specs.Record.{readingOf, kindReading, bodyOf, operatorOf as fieldsOf, operatorReading as checked}
 use Rattle.ranks.specs.Rest.{Place, at, ended}
 use Rattle.calls.specs.Session.{Reading, refuse, accept, Stage, part, whole, Call, reading, handOut, rewind, clear, plain, imageOf, shortest}
 use Rattle.calls.specs.Session.{early, walking, joined, remembered, step, after}
 use Rattle.calls.specs.Session as Model
 use Rattle.calls.specs.Remembered.{operatorOf}
-use Rattle.session.specs.declared.Parts.{Parts}
-use Rattle.session.specs.World.{world, partReading, operatorReading, turnAt}
-use Rattle.session.specs.Session.{meaning, fresh}
+use Rattle.stages.specs.declared.Parts.{Parts}
+use Rattle.stages.specs.World.{world, partReading, operatorReading, turnAt}
+use Rattle.stages.specs.Session.{meaning, fresh}
 
 never : {A : Type 0} (r n : ℕ) (a : A) → _≡_ {A = Reading A} (refuse r) (accept n a) → ⊥
 never r n a e = let u : _≡_ {A = ℕ} 0 1 = cc in absurd (omega arith)

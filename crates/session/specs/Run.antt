@@ -8,10 +8,10 @@ use Rattle.ring.specs.declared.Point.{Point}
 use Rattle.calls.specs.Session.{Call, reading, handOut, rewind, clear, plain, imageOf, shortest, step, answers, after}
 use Rattle.calls.specs.Session as Model
 use Rattle.calls.specs.Since.{Exchange, exchanges, sinceAfter}
-use Rattle.session.specs.declared.Session.{Session}
-use Rattle.session.specs.declared.Answer.{Answer}
-use Rattle.session.specs.World.{world}
-use Rattle.session.specs.Session.{meaning, fresh, answerOf, Steps, Hands}
+use Rattle.stages.specs.declared.Session.{Session}
+use Rattle.stages.specs.declared.Answer.{Answer}
+use Rattle.stages.specs.World.{world}
+use Rattle.stages.specs.Session.{meaning, fresh, answerOf, Steps, Hands}
 
 -- a call that was made: its arguments, what it answered, and the lent slice as it left it (none: [])
 pub record Made : Type 0 where

@@ -15,12 +15,12 @@ use Rattle.calls.specs.Rules.{verdict, verdicts, begin}
 use Rattle.calls.specs.Since.{sinceAfter, since, points, spaces, fullOf}
 use Rattle.calls.specs.Refused.{unrefused, granted, refused-same, refused-lent}
 use Rattle.calls.specs.Operators.{struck, isHandOut, isIndependent, picked}
-use Rattle.record.specs.declared.Refusal.{Refusal}
-use Rattle.session.specs.declared.Session.{Session}
-use Rattle.session.specs.declared.Answer.the-variants as A
-use Rattle.session.specs.World.{world}
-use Rattle.session.specs.Session.{meaning, fresh, Hands}
-use Rattle.session.specs.Meaning.{Fits, meaning-one}
+use Rattle.kinds.specs.declared.Refusal.{Refusal}
+use Rattle.stages.specs.declared.Session.{Session}
+use Rattle.stages.specs.declared.Answer.the-variants as A
+use Rattle.stages.specs.World.{world}
+use Rattle.stages.specs.Session.{meaning, fresh, Hands}
+use Rattle.stages.specs.Meaning.{Fits, meaning-one}
 use Rattle.session.specs.Calls.{left, session-rules, session-first, session-rising, session-count, session-end, session-refused, session-operators, session-others}
 use Rattle.session.specs.Run.{Made, Link, hand-out, From, none, then, Run, callsOf, answered, answersOf, sinceOf, link-answer, link-session, from-answers, from-after, from-exchanges}
 

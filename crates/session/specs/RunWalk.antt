@@ -26,13 +26,13 @@ use Rattle.calls.specs.Rules.{begin, tallied}
 use Rattle.calls.specs.Agree.{jobOf, whole-job}
 use Rattle.calls.specs.Since.{points, spaces, fullOf}
 use Rattle.calls.specs.End.{reported, finished-all}
-use Rattle.session.specs.declared.Course.{Course}
-use Rattle.session.specs.declared.Stage.{Stage}
-use Rattle.session.specs.declared.Stage.the-variants as S
-use Rattle.session.specs.declared.Session.{Session}
-use Rattle.session.specs.declared.Answer.the-variants as A
-use Rattle.session.specs.World.{world}
-use Rattle.session.specs.Session.{stageOf, meaning, Steps}
+use Rattle.stages.specs.declared.Course.{Course}
+use Rattle.stages.specs.declared.Stage.{Stage}
+use Rattle.stages.specs.declared.Stage.the-variants as S
+use Rattle.stages.specs.declared.Session.{Session}
+use Rattle.stages.specs.declared.Answer.the-variants as A
+use Rattle.stages.specs.World.{world}
+use Rattle.stages.specs.Session.{stageOf, meaning, Steps}
 use Rattle.session.specs.Run.{Made, Run, callsOf, sinceOf, from-after}
 use Rattle.session.specs.RunCalls.{listOf, run-since, run-first, run-rising}
 

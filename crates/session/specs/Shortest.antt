@@ -5,19 +5,19 @@ use mathlib.Core.List.{[]}
 use Prim.Native.Nat.{ℕ}
 use native.Mathlib.Omega.{arith}
 use Rattle.ring.specs.declared.Point.{Point}
-use Rattle.record.specs.declared.Refusal.the-variants.{NoPattern}
+use Rattle.kinds.specs.declared.Refusal.the-variants.{NoPattern}
 use Rattle.shortest.specs.declared.Pattern.{Pattern}
 use Rattle.shortest.specs.declared.Pattern.the-variants as P
 use Rattle.shortest.specs.Pattern.{patternOf}
 use Rattle.calls.specs.Session.{shortest, found}
 use Rattle.calls.specs.Session as Model
-use Rattle.session.specs.declared.Course.{Course}
-use Rattle.session.specs.declared.Stage.the-variants as S
-use Rattle.session.specs.declared.Session.{Session}
-use Rattle.session.specs.declared.Answer.{Answer}
-use Rattle.session.specs.declared.Answer.the-variants as A
-use Rattle.session.specs.World.{Best, world, bestOf}
-use Rattle.session.specs.Session.{answerOf, Steps}
+use Rattle.stages.specs.declared.Course.{Course}
+use Rattle.stages.specs.declared.Stage.the-variants as S
+use Rattle.stages.specs.declared.Session.{Session}
+use Rattle.stages.specs.declared.Answer.{Answer}
+use Rattle.stages.specs.declared.Answer.the-variants as A
+use Rattle.stages.specs.World.{Best, world, bestOf}
+use Rattle.stages.specs.Session.{answerOf, Steps}
 
 -- what is answered where the job is whole
 asked : (s : Session) (c : Course) (a : Answer) → s .stage ≡ S.Walking c → Steps shortest [] s s a → found world (bestOf (patternOf (c .job))) ≡ answerOf [] a

@@ -6,16 +6,16 @@ ghost use Rattle.ranks.specs.Rest.{leftAt};
 ghost use Rattle.ranks.specs.Rank.{top};
 ghost use Rattle.cuts.specs.Digits.{span};
 ghost use Rattle.walk.specs.Walk.{listedAt, spotOf};
-ghost use Rattle.session.specs.World.{world};
-ghost use Rattle.session.specs.Session.{courseOf, ended, EmptyIf, Gives};
-use crate::Answer;
-use crate::Course;
-use crate::Outcome;
-use crate::Session;
-use crate::Stage;
-use crate::place;
+ghost use Rattle.stages.specs.World.{world};
+ghost use Rattle.stages.specs.Session.{courseOf, ended, EmptyIf, Gives};
 use operator::Operator;
 use record::Refusal;
+use stages::Answer;
+use stages::Course;
+use stages::Outcome;
+use stages::Session;
+use stages::Stage;
+use stages::place;
 use walk::Spot;
 
 // With a job: after the end was reported it is refused.

@@ -19,7 +19,7 @@ use Rattle.operator.specs.declared.Inverse.{Inverse}
 use Rattle.operator.specs.declared.Inverse.the-variants as I
 use Rattle.operator.specs.Operator.{imageOf}
 use Rattle.operator.specs.Inverse.{inverseOf}
-use Rattle.session.specs.World.{undone, isImage}
+use Rattle.stages.specs.World.{undone, isImage}
 
 abbrev pub exponentBy : ℕ → Point → ℕ
 exponentBy zero v = 0

@@ -1,12 +1,12 @@
--- `hand_out` lends its session to `bench::hand_out`.
+-- `hand_out` lends its session to `lent::hand_out`.
 use contract.Running.{givenOf, tables, tablesOf}
 use denote.Triple.Spec.{tripleOf}
 use denote.Triple.Table.{entered, cited}
-use Rattle.session.specs.Session.{Hands}
-use Rattle.bench.proofs.hand_out as lent
-use Rattle.bench.proofs.hand_out.Symbol as lent-def
-use Rattle.bench.proofs.hand_out.Symbol.{name as #lent}
-use Rattle.bench.proofs.hand_out.Met as lent-thm
+use Rattle.stages.specs.Session.{Hands}
+use Rattle.lent.proofs.hand_out as lent
+use Rattle.lent.proofs.hand_out.Symbol as lent-def
+use Rattle.lent.proofs.hand_out.Symbol.{name as #lent}
+use Rattle.lent.proofs.hand_out.Met as lent-thm
 use Rattle.held.proofs.HeldNumbers.{held}
 use Rattle.held.proofs.hand_out.Key.{name as #self}
 use Rattle.held.proofs.hand_out as self
@@ -19,4 +19,4 @@ hand-out-spec 𝓤 H 𝓜 𝓖 𝓡 =
     entered 𝓤 H (tripleOf 𝓤 H (𝓖 .A) self.signature (self.spec 𝓤 H (𝓖 .A) (𝓜 .mem) (𝓡 .run)))
     (tables 𝓤 H 𝓜 𝓡 code.env .C) (tables 𝓤 H 𝓜 𝓡 code.env .Λ) #self code.function (code.unfolded 𝓤 H 𝓜 𝓡)
     (held #lent Hands 𝓤 H (𝓖 .A) (givenOf 𝓤 H 𝓜 𝓖) (tablesOf 𝓤 H 𝓜 (tables 𝓤 H 𝓜 𝓡 code.env))
-    (cited 𝓤 H (tripleOf 𝓤 H (𝓖 .A) lent.signature (lent.spec 𝓤 H (𝓖 .A) (𝓜 .mem) (𝓡 .run))) 𝓜 𝓡 code.env #lent lent-def.routine code.calls-bench·hand-out (lent-thm.met 𝓤 H 𝓜 𝓖 𝓡)))
+    (cited 𝓤 H (tripleOf 𝓤 H (𝓖 .A) lent.signature (lent.spec 𝓤 H (𝓖 .A) (𝓜 .mem) (𝓡 .run))) 𝓜 𝓡 code.env #lent lent-def.routine code.calls-lent·hand-out (lent-thm.met 𝓤 H 𝓜 𝓖 𝓡)))

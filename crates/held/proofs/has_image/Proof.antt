@@ -1,14 +1,14 @@
--- `has_image` shows its session to `bench::has_image`.
+-- `has_image` shows its session to `lent::has_image`.
 use mathlib.Core.List.{[]}
 use contract.Running.{givenOf, tables, tablesOf}
 use denote.Triple.Spec.{tripleOf}
 use denote.Triple.Table.{entered, cited}
 use Rattle.calls.specs.Session as Model
-use Rattle.session.specs.Session.{Steps}
-use Rattle.bench.proofs.has_image as lent
-use Rattle.bench.proofs.has_image.Symbol as lent-def
-use Rattle.bench.proofs.has_image.Symbol.{name as #lent}
-use Rattle.bench.proofs.has_image.Met as lent-thm
+use Rattle.stages.specs.Session.{Steps}
+use Rattle.lent.proofs.has_image as lent
+use Rattle.lent.proofs.has_image.Symbol as lent-def
+use Rattle.lent.proofs.has_image.Symbol.{name as #lent}
+use Rattle.lent.proofs.has_image.Met as lent-thm
 use Rattle.held.proofs.LookWith.{looks}
 use Rattle.held.proofs.has_image.Key.{name as #self}
 use Rattle.held.proofs.has_image as self
@@ -21,4 +21,4 @@ has-image-spec 𝓤 H 𝓜 𝓖 𝓡 =
     entered 𝓤 H (tripleOf 𝓤 H (𝓖 .A) self.signature (self.spec 𝓤 H (𝓖 .A) (𝓜 .mem) (𝓡 .run)))
     (tables 𝓤 H 𝓜 𝓡 code.env .C) (tables 𝓤 H 𝓜 𝓡 code.env .Λ) #self code.function (code.unfolded 𝓤 H 𝓜 𝓡)
     (looks #lent (λ s w. Steps (Model.imageOf w) [] s s) 𝓤 H (𝓖 .A) (givenOf 𝓤 H 𝓜 𝓖) (tablesOf 𝓤 H 𝓜 (tables 𝓤 H 𝓜 𝓡 code.env))
-    (cited 𝓤 H (tripleOf 𝓤 H (𝓖 .A) lent.signature (lent.spec 𝓤 H (𝓖 .A) (𝓜 .mem) (𝓡 .run))) 𝓜 𝓡 code.env #lent lent-def.routine code.calls-bench·has-image (lent-thm.met 𝓤 H 𝓜 𝓖 𝓡)))
+    (cited 𝓤 H (tripleOf 𝓤 H (𝓖 .A) lent.signature (lent.spec 𝓤 H (𝓖 .A) (𝓜 .mem) (𝓡 .run))) 𝓜 𝓡 code.env #lent lent-def.routine code.calls-lent·has-image (lent-thm.met 𝓤 H 𝓜 𝓖 𝓡)))

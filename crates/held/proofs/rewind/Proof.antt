@@ -1,14 +1,14 @@
--- `rewind` lends its session to `bench::rewind`.
+-- `rewind` lends its session to `lent::rewind`.
 use mathlib.Core.List.{[]}
 use contract.Running.{givenOf, tables, tablesOf}
 use denote.Triple.Spec.{tripleOf}
 use denote.Triple.Table.{entered, cited}
 use Rattle.calls.specs.Session as Model
-use Rattle.session.specs.Session.{Steps}
-use Rattle.bench.proofs.rewind as lent
-use Rattle.bench.proofs.rewind.Symbol as lent-def
-use Rattle.bench.proofs.rewind.Symbol.{name as #lent}
-use Rattle.bench.proofs.rewind.Met as lent-thm
+use Rattle.stages.specs.Session.{Steps}
+use Rattle.lent.proofs.rewind as lent
+use Rattle.lent.proofs.rewind.Symbol as lent-def
+use Rattle.lent.proofs.rewind.Symbol.{name as #lent}
+use Rattle.lent.proofs.rewind.Met as lent-thm
 use Rattle.held.proofs.Held.{held}
 use Rattle.held.proofs.rewind.Key.{name as #self}
 use Rattle.held.proofs.rewind as self
@@ -21,4 +21,4 @@ rewind-spec 𝓤 H 𝓜 𝓖 𝓡 =
     entered 𝓤 H (tripleOf 𝓤 H (𝓖 .A) self.signature (self.spec 𝓤 H (𝓖 .A) (𝓜 .mem) (𝓡 .run)))
     (tables 𝓤 H 𝓜 𝓡 code.env .C) (tables 𝓤 H 𝓜 𝓡 code.env .Λ) #self code.function (code.unfolded 𝓤 H 𝓜 𝓡)
     (held #lent (Steps Model.rewind []) 𝓤 H (𝓖 .A) (givenOf 𝓤 H 𝓜 𝓖) (tablesOf 𝓤 H 𝓜 (tables 𝓤 H 𝓜 𝓡 code.env))
-    (cited 𝓤 H (tripleOf 𝓤 H (𝓖 .A) lent.signature (lent.spec 𝓤 H (𝓖 .A) (𝓜 .mem) (𝓡 .run))) 𝓜 𝓡 code.env #lent lent-def.routine code.calls-bench·rewind (lent-thm.met 𝓤 H 𝓜 𝓖 𝓡)))
+    (cited 𝓤 H (tripleOf 𝓤 H (𝓖 .A) lent.signature (lent.spec 𝓤 H (𝓖 .A) (𝓜 .mem) (𝓡 .run))) 𝓜 𝓡 code.env #lent lent-def.routine code.calls-lent·rewind (lent-thm.met 𝓤 H 𝓜 𝓖 𝓡)))

@@ -9,9 +9,9 @@ use lib.ListN.{length, drop, take, length-drop}
 use lib.Seq.{take-all}
 use Rattle.calls.specs.Session.{reading, step}
 use Rattle.calls.specs.Session as Model
-use Rattle.session.specs.declared.Answer.{Answer}
-use Rattle.session.specs.World.{world}
-use Rattle.session.specs.Session.{meaning, fresh, outcome}
+use Rattle.stages.specs.declared.Answer.{Answer}
+use Rattle.stages.specs.World.{world}
+use Rattle.stages.specs.Session.{meaning, fresh, outcome}
 use Rattle.input.specs.Load as Load
 use Rattle.input.specs.Reading.{records-end, records-stop, records-take, step-takes}
 use Rattle.input.proofs.records.Statement.{statement}

@@ -5,8 +5,8 @@ use mathlib.Core.Bool.{Bool, true, false, not}
 use native.Mathlib.Omega.{arith}
 use lib.ListN.{length}
 use borrow.Author.Needs.{needs}
-use Rattle.printing.specs.Pieces.{stateOf, most}
-use Rattle.printing.specs.Joined.{piece-less}
+use Rattle.output.specs.Pieces.{stateOf, most}
+use Rattle.output.specs.Joined.{piece-less}
 use Rattle.printing.proofs.print_from.Statement.{statement}
 use Rattle.printing.proofs.print_from.Tie as tie
 

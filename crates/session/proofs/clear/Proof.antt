@@ -1,9 +1,9 @@
 use mathlib.Core.Path.{ap}
 use mathlib.Core.List.{[]}
 use borrow.Author.Needs.{needs}
-use Rattle.session.specs.declared.Session.{Session}
-use Rattle.session.specs.declared.Answer.the-variants.{Done}
-use Rattle.session.specs.Session.{outcome}
+use Rattle.stages.specs.declared.Session.{Session}
+use Rattle.stages.specs.declared.Answer.the-variants.{Done}
+use Rattle.stages.specs.Session.{outcome}
 use Rattle.session.proofs.clear.Statement.{statement}
 use Rattle.session.proofs.clear.Tie as tie
 

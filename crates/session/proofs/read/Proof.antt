@@ -1,7 +1,7 @@
 use denote.Ref.{now}
 use mathlib.Core.Path.{sym, ap, _∙_}
 use Rattle.record.specs.Record.{readingOf}
-use Rattle.session.specs.Session.{outcomeOf, refused-outcome, reading-outcome}
+use Rattle.stages.specs.Session.{outcomeOf, refused-outcome, reading-outcome}
 use borrow.Author.Needs.{needs}
 use Rattle.session.proofs.read.Statement.{statement}
 use Rattle.session.proofs.read.Tie as tie

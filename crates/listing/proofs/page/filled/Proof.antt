@@ -7,13 +7,13 @@ use native.Mathlib.Omega.{arith}
 use lib.IntN.{ℤ}
 use lib.ListN.{length, take}
 use Rattle.calls.specs.Session.{handOut, step}
-use Rattle.session.specs.declared.Answer.{Answer}
-use Rattle.session.specs.World.{world}
-use Rattle.session.specs.Session.{meaning, answerOf, outcome}
+use Rattle.stages.specs.declared.Answer.{Answer}
+use Rattle.stages.specs.World.{world}
+use Rattle.stages.specs.Session.{meaning, answerOf, outcome}
 use Rattle.text.specs.Append.{Appended}
 use Rattle.listing.specs.declared.page.Page.{Page}
-use Rattle.listing.specs.Lines.{linesOf, pageOf}
-use Rattle.listing.specs.Page.{Paged, scaleOf}
+use Rattle.list_lines.specs.Lines.{linesOf}
+use Rattle.listing.specs.Page.{pageOf, Paged, scaleOf}
 use Rattle.listing.specs.Given.{isHanded, Handing, page-handed, Nothing, page-nothing}
 use borrow.Author.Needs.{needs}
 use Rattle.listing.proofs.page.filled.Statement.{statement}

@@ -5,9 +5,8 @@ use native.Mathlib.Nat.{min-le-left, min-le-right}
 use native.Mathlib.Omega.{arith}
 use lib.ListN.{length, take}
 use lib.Seq.{length-take-le}
-use Rattle.session.specs.Session.{meaning}
-use Rattle.listing.specs.Lines.{pageOf}
-use Rattle.listing.specs.Page.{Paged}
+use Rattle.stages.specs.Session.{meaning}
+use Rattle.listing.specs.Page.{pageOf, Paged}
 use borrow.Author.Needs.{needs}
 use Rattle.listing.proofs.page.next.Statement.{statement}
 use Rattle.listing.proofs.page.next.Tie as tie

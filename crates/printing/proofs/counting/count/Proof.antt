@@ -4,7 +4,7 @@ use mathlib.Core.Path.{_≡_, refl}
 use mathlib.Core.Bool.{Bool, true, false}
 use native.Mathlib.Omega.{arith}
 use borrow.Author.Needs.{needs}
-use Rattle.session.specs.Session.{meaning}
+use Rattle.stages.specs.Session.{meaning}
 use Rattle.listing.specs.Given.{leftOf}
 use Rattle.printing.proofs.counting.count.Statement.{statement}
 use Rattle.printing.proofs.counting.count.Tie as tie

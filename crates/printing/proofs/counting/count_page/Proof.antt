@@ -6,9 +6,9 @@ use native.Mathlib.Omega.{arith}
 use lib.Dec.{lit≤}
 use lib.ListN.{length}
 use Rattle.calls.specs.Session.{handOut, step}
-use Rattle.session.specs.declared.Answer.{Answer}
-use Rattle.session.specs.World.{world}
-use Rattle.session.specs.Session.{meaning, outcome}
+use Rattle.stages.specs.declared.Answer.{Answer}
+use Rattle.stages.specs.World.{world}
+use Rattle.stages.specs.Session.{meaning, outcome}
 use Rattle.listing.specs.Given.{leftOf, page-handed, page-less}
 use borrow.Author.Needs.{needs}
 use Rattle.printing.proofs.counting.count_page.Statement.{statement}

@@ -1,5 +1,5 @@
 use mathlib.Core.Path.{refl}
-use Rattle.session.specs.Session.{course-hands}
+use Rattle.stages.specs.Session.{course-hands}
 use borrow.Author.Needs.{needs}
 use Rattle.session.proofs.hand.from_course.Statement.{statement}
 use Rattle.session.proofs.hand.from_course.Tie as tie
