@@ -1,6 +1,6 @@
 -- The rows that the walk through the scaled pairs passes over have no pair: what the walk asks for holds, and what it finds is said of the problem itself.
 use mathlib.Core.Path.{_≡_, refl, sym, _∙_, ap, subst, subst₂}
-use mathlib.Core.Bool.{Bool, true, false, false≢true}
+use mathlib.Core.Bool.{Bool, true, false, false≢true, _&&_}
 use Prim.Native.Nat.{ℕ, _*_, _^_, _≤_}
 use native.Mathlib.Omega.{arith}
 use lib.IntN.{ℤ, pos, negℤ, natAbs, _-ℤ_, _*ℤ_}
@@ -11,7 +11,7 @@ use Rattle.ring.specs.RootTwo.{conj, conj-parts}
 use Rattle.ring.specs.RootTwo.Sized.{conj-size, less-size, product-size}
 use Rattle.line.specs.declared.Interval.{Interval}
 use Rattle.line.specs.declared.row.Strip.{Strip}
-use Rattle.line.specs.Line.{both, bound, span, coordinate, accepted, inRange, solves, holds}
+use Rattle.line.specs.Line.{bound, span, coordinate, accepted, inRange, solves, holds}
 use Rattle.line.specs.Row.{at, above, below, coordinate-mono}
 use Rattle.line.specs.Both.{is-false, both-true, both-of}
 use Rattle.line.specs.Strips.{stripOf, solves-row, Ranged, both-ranged, size-within}
@@ -42,9 +42,9 @@ interval-ends i r =
 pub solves-turned : (i j : Interval) (a b : ℤ) → solves i j a b ≡ true → solves j i a (negℤ b) ≡ true
 unfolding solves
 solves-turned i j a b e =
-    subst₂ (λ (x y : RootTwo). both (holds j x) (holds i y) ≡ true) (conj-parts (at a b)) (sym (back a b)) (swap (holds i (at a b)) (holds j (conj (at a b))) e)
+    subst₂ (λ (x y : RootTwo). holds j x && holds i y ≡ true) (conj-parts (at a b)) (sym (back a b)) (swap (holds i (at a b)) (holds j (conj (at a b))) e)
   where
-    swap : (x y : Bool) → both x y ≡ true → both y x ≡ true
+    swap : (x y : Bool) → x && y ≡ true → y && x ≡ true
     swap true true e = refl
     swap true false e = e
     swap false true e = e

@@ -1,6 +1,6 @@
 -- The walk through the scaled pairs, by a' and then b': it passes over no pair with a from a given one on, and the first that it meets has the least such a.
 use mathlib.Core.Path.{_≡_, refl, sym, _∙_, ap, ap₂, subst}
-use mathlib.Core.Bool.{Bool, true, false, false≢true}
+use mathlib.Core.Bool.{Bool, true, false, false≢true, _&&_}
 use mathlib.Core.Logic.{_⊎_, inl, inr}
 use Prim.Native.Nat.{ℕ, zero, suc, _+_, _-_, _^_, _≤_, _<_, zero-le}
 use native.Mathlib.Decide.{decLt}
@@ -15,7 +15,7 @@ use Rattle.ring.specs.RootTwo.{conj, num, ext, num-parts}
 use Rattle.ring.specs.RootTwo.Order.{_⊑_, num-⊑}
 use Rattle.line.specs.declared.Interval.{Interval}
 use Rattle.line.specs.declared.row.Strip.{Strip}
-use Rattle.line.specs.Line.{both, bound, span, solves}
+use Rattle.line.specs.Line.{bound, span, solves}
 use Rattle.line.specs.Line as Line
 use Rattle.line.specs.Row.{at, coordinate, coordinate-mono, above, below, below-anti, lower, upper, Near, Least}
 use Rattle.line.specs.Both.{regroup}
@@ -74,7 +74,7 @@ digit-≺ x y h = go (pos x) (pos y) (pos middle) (record { lt = lt→ltb x y h 
     go (no l) = omega arith
 
 -- ---- rows
-pub solved-row : (s t : Strip) (a b : ℤ) → solved s t (at a b) ≡ both (lower s t a b) (upper s t a b)
+pub solved-row : (s t : Strip) (a b : ℤ) → solved s t (at a b) ≡ lower s t a b && upper s t a b
 solved-row s t a b = regroup (above s (at a b)) (below s (at a b)) (above t (conj (at a b))) (below t (conj (at a b)))
 
 abbrev pub First : Strip → ℕ → Type 0
