@@ -11,7 +11,7 @@ use crate::Sign;
 use crate::signs::sign_of;
 
 // a·b + c·d.
-fn dot(a: i64, b: i64, c: i64, d: i64) -> i64
+pub fn dot(a: i64, b: i64, c: i64, d: i64) -> i64
     requires { ⌜ natAbs (a *ℤ b) + natAbs (c *ℤ d) < 2 ^ 63 ⌝ }
     ensures { λ r. ⌜ r ≡ a *ℤ b +ℤ c *ℤ d ⌝ }
 {
