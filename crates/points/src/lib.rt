@@ -7,7 +7,10 @@ ghost use Rattle.points.specs.Digits.{span, coordinate, digit};
 ghost use Rattle.points.specs.Points.{rankOf, numbersOf};
 use ring::Point;
 
-const HALF: i64 = 2147483648;
+// The digit of the coordinate 0.
+pub const ORIGIN: u64 = 2147483648;
+
+const HALF: i64 = ORIGIN as i64;
 
 // The digit of a coordinate.
 pub fn digit(z: i32) -> u64
