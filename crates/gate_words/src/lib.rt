@@ -31,6 +31,7 @@ pub struct Part {
 }
 
 impl Refusal {
+    // The number of SPEC, "Refusals".
     pub fn number(self) -> u8
         ensures { λ r. ⌜ r ≡ numberOf self ⌝ }
     {
@@ -43,6 +44,7 @@ impl Refusal {
 }
 
 impl Answer {
+    // The answer taken apart.
     pub fn part(self) -> Part
         ensures { λ r. ⌜ (r .number ≡ number self) × (r .second ≡ isSecond self) × (r .len ≡ lengthOf self) ⌝ }
     {

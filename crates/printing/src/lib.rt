@@ -57,6 +57,7 @@ pub fn next(o: Output, out: &mut [u8]) -> Piece
     fill::part(o, out)
 }
 
+// Whether nothing is left to print.
 pub fn is_done(o: Output) -> bool
     ensures { λ r. ⌜ r ≡ doneAt (stateOf o) ⌝ }
 {
@@ -84,6 +85,7 @@ pub fn print_count(fd: i32, bytes: &[u8]) {
     print_from(fd, o);
 }
 
+// A text, whole.
 pub fn print(fd: i32, text: &[u8]) {
     io::write_all(fd, text);
 }

@@ -60,6 +60,7 @@ pub enum Refusal {
 }
 
 impl Refusal {
+    // The number of SPEC, "Refusals".
     pub fn number(self) -> u8
         ensures { λ r. ⌜ r ≡ numberOf self ⌝ }
     {
