@@ -14,7 +14,7 @@ use Rattle.equation.specs.Equation.{completes}
 use Rattle.spelling.specs.Points.{turn}
 use Rattle.spelling.specs.Table.{Letter}
 use Rattle.spelling.specs.Word.{Ts}
-use Rattle.spelling.specs.Matrix.{matrix, Spells, made}
+use Rattle.spelling.specs.Matrix.{Spells, made}
 use Rattle.spelling.specs.Least.{equation-turn}
 use Rattle.spelling.specs.Number.{least-Ts}
 use Rattle.spelling.specs.Exact as Exact

@@ -1,6 +1,5 @@
 -- The lines that the list program prints: SPEC, "List program".
-use mathlib.Core.Path.{_≡_, refl, ap, _∙_}
-use mathlib.Core.Bool.{Bool, true, false, not}
+use mathlib.Core.Bool.{Bool, false, not}
 use mathlib.Core.List.{List, [], _∷_, _++_}
 use Prim.Native.Nat.{ℕ, _+_, _*_, _/_, min}
 use lib.IntN.{ℤ, pos}

@@ -18,7 +18,7 @@ use Rattle.input.specs.Load.{Loaded, ready, refused, tooLong, loadOf}
 use Rattle.listing.specs.Lines.{linesOf, endLine, pageOf, roomIn}
 use Rattle.printing.specs.declared.Output.{Output}
 use Rattle.printing.specs.Output.{outputFor, outputOf}
-use Rattle.printing.specs.Pieces.{State, long, refusal, list, last, done, isDone, stateOf, begin, partOf, pieceOf, Filled, Printed, finished, piece, most, restOf}
+use Rattle.printing.specs.Pieces.{State, long, refusal, list, last, done, isDone, stateOf, begin, partOf, pieceOf, Printed, finished, piece, most, restOf}
 use Rattle.printing.specs.Pages.{kept-same, Small, Goes, page-goes, page-less}
 use Rattle.printing.specs.Ready.{Begun, load-begun}
 

@@ -1,6 +1,6 @@
 -- `filled` meets its contract. Assumes nothing.
-use Prim.Native.Nat.{ℕ, _*_, _/_, _≤_}
-use mathlib.Core.Path.{_≡_, refl, sym, ap, ap₂, subst, _∙_}
+use Prim.Native.Nat.{ℕ, _*_, _/_}
+use mathlib.Core.Path.{_≡_, refl, sym, ap, subst, _∙_}
 use mathlib.Core.Bool.{false}
 use mathlib.Core.List.{List, []}
 use native.Mathlib.Omega.{arith}
@@ -13,8 +13,8 @@ use Rattle.session.specs.Session.{meaning, answerOf, outcome}
 use Rattle.text.specs.Append.{Appended}
 use Rattle.listing.specs.declared.page.Page.{Page}
 use Rattle.listing.specs.Lines.{linesOf, pageOf}
-use Rattle.listing.specs.Page.{Paged, scaleOf}
-use Rattle.listing.specs.Given.{isHanded, Handing, page-handed, Nothing, page-nothing}
+use Rattle.listing.specs.Page.{Paged}
+use Rattle.listing.specs.Given.{isHanded, Handing, page-handed, page-nothing}
 use borrow.Author.Needs.{needs}
 use Rattle.listing.proofs.page.filled.Statement.{statement}
 use Rattle.listing.proofs.page.filled.Tie as tie

@@ -1,7 +1,7 @@
 -- `count_page` leaves less where more is to come. Assumes nothing.
 use Prim.Native.Nat.{ℕ, _/_, _≤_}
 use mathlib.Core.Path.{_≡_, sym, ap, _∙_}
-use mathlib.Core.Bool.{true, false, not}
+use mathlib.Core.Bool.{true, false}
 use native.Mathlib.Omega.{arith}
 use lib.Dec.{lit≤}
 use lib.ListN.{length}
@@ -9,7 +9,7 @@ use Rattle.calls.specs.Session.{handOut, step}
 use Rattle.session.specs.declared.Answer.{Answer}
 use Rattle.session.specs.World.{world}
 use Rattle.session.specs.Session.{meaning, outcome}
-use Rattle.listing.specs.Given.{leftOf, page-handed, page-less}
+use Rattle.listing.specs.Given.{page-handed, page-less}
 use borrow.Author.Needs.{needs}
 use Rattle.printing.proofs.counting.count_page.Statement.{statement}
 use Rattle.printing.proofs.counting.count_page.Tie as tie

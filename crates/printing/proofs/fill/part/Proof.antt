@@ -1,13 +1,11 @@
 -- `part` meets its contract. Assumes nothing.
-use Prim.Native.Nat.{ℕ, _≤_}
-use mathlib.Core.Path.{_≡_, refl, sym, ap, subst, _∙_}
-use mathlib.Core.List.{List, []}
+use mathlib.Core.Path.{sym, ap, subst}
 use native.Mathlib.Omega.{arith}
 use mir.Syntax.{w64}
 use mir.Val.{Fits}
 use lib.ListN.{length}
 use Rattle.printing.specs.declared.Output.{Output}
-use Rattle.printing.specs.Pieces.{Part, stateOf, partOf, FilledPart}
+use Rattle.printing.specs.Pieces.{stateOf, partOf, FilledPart}
 use Rattle.printing.proofs.Lines.{line-part, none-part, refusal-short, end-short}
 use borrow.Author.Needs.{needs}
 use Rattle.printing.proofs.fill.part.Statement.{statement}
