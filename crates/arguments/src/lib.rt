@@ -2,7 +2,9 @@
 use integers::Narrow;
 use integers::Short;
 use line::Interval;
+use operator::Narrowed;
 use operator::Operator;
+use operator::WidePoint;
 use ring::Point;
 
 // Four numbers of 32 bits.
@@ -11,20 +13,13 @@ pub enum Four {
     TooWide,
 }
 
+// The point of four numbers.
 pub fn point_of(a: i64, b: i64, c: i64, d: i64) -> Four {
-    let Narrow::Fits(a) = integers::to_i32(a) else {
-        return Four::TooWide;
-    };
-    let Narrow::Fits(b) = integers::to_i32(b) else {
-        return Four::TooWide;
-    };
-    let Narrow::Fits(c) = integers::to_i32(c) else {
-        return Four::TooWide;
-    };
-    let Narrow::Fits(d) = integers::to_i32(d) else {
-        return Four::TooWide;
-    };
-    Four::Point(Point { a, b, c, d })
+    let w = WidePoint { a, b, c, d };
+    match w.narrow() {
+        Narrowed::Fits(v) => Four::Point(v),
+        Narrowed::TooWide => Four::TooWide,
+    }
 }
 
 // A number of 8 bits, without a sign.
@@ -33,6 +28,7 @@ pub enum Byte {
     TooWide,
 }
 
+// The byte of a number.
 pub fn byte_of(k: i64) -> Byte {
     if !integers::is_nonneg(k) {
         return Byte::TooWide;
@@ -50,6 +46,7 @@ pub enum Ends {
     TooWide,
 }
 
+// The interval of three numbers: n, lo, hi.
 pub fn interval_of(n: i64, lo: i64, hi: i64) -> Ends {
     let Narrow::Fits(n) = integers::to_i32(n) else {
         return Ends::TooWide;

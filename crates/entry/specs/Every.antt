@@ -1,15 +1,14 @@
 -- A test of every number below n.
 use mathlib.Core.Path.{_≡_, ap, _∙_}
-use mathlib.Core.Bool.{Bool, true}
+use mathlib.Core.Bool.{Bool, true, _&&_}
 use Prim.Native.Nat.{ℕ, zero, suc, _<_}
 use native.Mathlib.Decide.{decLt}
 use native.Mathlib.Omega.{arith}
-use Rattle.equation.specs.Equation.{both}
 use Rattle.equation.specs.Tests.{both-true}
 
 abbrev pub every : ℕ → (ℕ → Bool) → Bool
 every zero t = true
-every (suc n) t = both (t n) (every n t)
+every (suc n) t = t n && every n t
 
 pub every-at : (n : ℕ) (t : ℕ → Bool) → every n t ≡ true → (i : ℕ) → i < n → t i ≡ true
 every-at zero t e i h = absurd (omega arith)

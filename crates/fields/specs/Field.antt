@@ -1,6 +1,6 @@
 -- A field of a record: SPEC, "Records". Little-endian, signed ones in two's complement; the size is a parameter.
 use mathlib.Core.Path.{_≡_, refl, sym, _∙_, ap}
-use mathlib.Core.Bool.{Bool, true, false}
+use mathlib.Core.Bool.{Bool, cond}
 use mathlib.Core.List.{List}
 use Prim.Native.Nat.{ℕ, zero, suc, _+_, _-_, _*_, _^_, _<_, _≤_}
 use native.Mathlib.Omega.{arith}
@@ -14,13 +14,9 @@ unfoldable pub unsignedAt : ℕ → List ℕ → ℕ → ℕ
 unsignedAt zero s k = 0
 unsignedAt (suc n) s k = getD s k 0 + 256 * unsignedAt n s (k + 1)
 
-abbrev pub pick : Bool → ℤ → ℤ → ℤ
-pick true x y = x
-pick false x y = y
-
 -- a number of b bits as it is below 2^(b − 1), another less 2^b
 unfoldable pub twos : ℕ → ℕ → ℤ
-twos b u = pick (ltb u (2 ^ (b - 1))) (pos u) (pos u -ℤ pos (2 ^ b))
+twos b u = cond (ltb u (2 ^ (b - 1))) (pos u) (pos u -ℤ pos (2 ^ b))
 
 unfoldable pub signedAt : ℕ → List ℕ → ℕ → ℤ
 signedAt n s k = twos (8 * n) (unsignedAt n s k)

@@ -1,6 +1,6 @@
 -- How each answer is reached, and what its part is.
 use mathlib.Core.Path.{_≡_, refl, sym, _∙_, ap, ap₂}
-use mathlib.Core.Bool.{Bool, true, false, not, _&&_}
+use mathlib.Core.Bool.{Bool, true, false, not, _&&_, cond}
 use mathlib.Core.List.{List}
 use Prim.Native.Nat.{ℕ, _≤_, _<_}
 use native.Mathlib.Omega.{arith}
@@ -13,7 +13,6 @@ use Rattle.ring.specs.declared.Point.{Point}
 use Rattle.equation.specs.Equation.{squares, cross, completes}
 use Rattle.equation.specs.Tests.{both-true, same-true}
 use Rattle.ranges.specs.Ranges.{topScale}
-use Rattle.spelling.specs.Bits.{both, pick}
 use Rattle.spelling.specs.Points.{N, F}
 use Rattle.spelling.specs.State.{Equation}
 use Rattle.spelling.specs.Table.{Letter}
@@ -48,12 +47,8 @@ and-split false b e = let z : _≡_ {A = ℕ} 0 1 = cc in absurd (omega arith)
 pub and-first : (a b : Bool) → a && b ≡ true → a ≡ true
 and-first a b e = and-split a b e .0
 
-and-is : (a b : Bool) → a && b ≡ both a b
-and-is true b = refl
-and-is false b = refl
-
 pub fits-is : (k : ℕ) (u t : Point) (m n : ℕ) {x y : Word} → Writes x (wordU k u t) → Writes y (wordTUT k u t) → leb (x .len) m && leb (y .len) n ≡ fit k u t m n
-fits-is k u t m n {x} {y} p q = and-is (leb (x .len) m) (leb (y .len) n) ∙ ap₂ (λ a b. both (leb a m) (leb b n)) (p .len) (q .len)
+fits-is k u t m n {x} {y} p q = ap₂ (λ a b. leb a m && leb b n) (p .len) (q .len)
 
 pub unless : (b : Bool) → not b ≡ true → b ≡ false
 unless b e = decided b true e
@@ -62,11 +57,11 @@ pub given : (b : Bool) → not b ≡ false → b ≡ true
 given b e = decided b false e
 
 -- the equation fails, at a scale in range
-pub fails : (a b : Bool) {r : Bool} → r ≡ both a b → a ≡ true → r ≡ false → b ≡ false
+pub fails : (a b : Bool) {r : Bool} → r ≡ a && b → a ≡ true → r ≡ false → b ≡ false
 fails true b e f g = sym e ∙ g
 fails false b e f g = let z : _≡_ {A = ℕ} 0 1 = cc in absurd (omega arith)
 
-pub holds : (a b : Bool) {r : Bool} → r ≡ both a b → r ≡ true → b ≡ true
+pub holds : (a b : Bool) {r : Bool} → r ≡ a && b → r ≡ true → b ≡ true
 holds true b e g = sym e ∙ g
 holds false b e g = let z : _≡_ {A = ℕ} 0 1 = cc in absurd (omega arith)
 
@@ -102,24 +97,24 @@ module _ (k : ℕ) (u t : Point) where
       answer-is : (b : Bool) → b ≡ fit k u t (length s) (length v) → answerTo b x y ≡ answer k u t s v
       unfolding answerOf
       answer-is b g =
-          ap₂ (λ n m. pick b (pick (ltb n m) (Second (y .len)) (First (x .len))) (Refused NoRoom)) (ap tally (q .letters) ∙ tally-is (wordTUT k u t)) (ap tally (p .letters) ∙ tally-is (wordU k u t))
-          ∙ ap₂ (λ n m. pick b (pick (isFewer k u t) (Second n) (First m)) (Refused NoRoom)) (q .len) (p .len)
-          ∙ ap (λ b. pick b (handed k u t) (Refused NoRoom)) g
+          ap₂ (λ n m. cond b (cond (ltb n m) (Second (y .len)) (First (x .len))) (Refused NoRoom)) (ap tally (q .letters) ∙ tally-is (wordTUT k u t)) (ap tally (p .letters) ∙ tally-is (wordU k u t))
+          ∙ ap₂ (λ n m. cond b (cond (isFewer k u t) (Second n) (First m)) (Refused NoRoom)) (q .len) (p .len)
+          ∙ ap (λ b. cond b (handed k u t) (Refused NoRoom)) g
           ∙ sym (rw (e, f) refl)
 
       spelled-is : (b : Bool) → b ≡ fit k u t (length s) (length v) → isSpelled (answer k u t s v) ≡ b
       spelled-is b g = ap isSpelled (sym (answer-is b g)) ∙ go b (ltb (tally (written y)) (tally (written x)))
         where
-          go : (b c : Bool) → isSpelled (pick b (pick c (Second (y .len)) (First (x .len))) (Refused NoRoom)) ≡ b
+          go : (b c : Bool) → isSpelled (cond b (cond c (Second (y .len)) (First (x .len))) (Refused NoRoom)) ≡ b
           go true true = refl
           go true false = refl
           go false c = refl
 
-      pub spells : (b : Bool) {s′ v′ : List ℕ} {r : Answer} → b ≡ fit k u t (length s) (length v) → s′ ≡ pick b (laid (written x) s) s → v′ ≡ pick b (laid (written y) v) v → r ≡ answerTo b x y → Spells k u t s v s′ v′ r
+      pub spells : (b : Bool) {s′ v′ : List ℕ} {r : Answer} → b ≡ fit k u t (length s) (length v) → s′ ≡ cond b (laid (written x) s) s → v′ ≡ cond b (laid (written y) v) v → r ≡ answerTo b x y → Spells k u t s v s′ v′ r
       spells b g h i j = record {
         answers = j ∙ answer-is b g;
-        first = h ∙ ap₂ (λ c w. pick c (laid w s) s) (sym (spelled-is b g)) (p .letters);
-        second = i ∙ ap₂ (λ c w. pick c (laid w v) v) (sym (spelled-is b g)) (q .letters);
+        first = h ∙ ap₂ (λ c w. cond c (laid w s) s) (sym (spelled-is b g)) (p .letters);
+        second = i ∙ ap₂ (λ c w. cond c (laid w v) v) (sym (spelled-is b g)) (q .letters);
       }
 
 -- ---- an answer taken apart
@@ -128,14 +123,14 @@ module _ (k : ℕ) (u t : Point) (s v : List ℕ) where
   hands e h = record { number = h .0 ∙ ap number (e .answers); which = h .1 ∙ ap isSecond (e .answers); len = h .2 ∙ ap lengthOf (e .answers); first = e .first; second = e .second }
 
   -- the part that an answer names is the word that it hands back
-  part : (x y : List Letter) (b c d e : Bool) → let r : Answer = pick b (pick c (pick d (pick e (Second (length y)) (First (length x))) (Refused NoRoom)) (Refused NotUnitary)) (Refused OutOfRange) in
-      take (lengthOf r) (pick (isSecond r) (pick (isSpelled r) (laid (bytes y) v) v) (pick (isSpelled r) (laid (bytes x) s) s)) ≡ bytes (named x y r)
+  part : (x y : List Letter) (b c d e : Bool) → let r : Answer = cond b (cond c (cond d (cond e (Second (length y)) (First (length x))) (Refused NoRoom)) (Refused NotUnitary)) (Refused OutOfRange) in
+      take (lengthOf r) (cond (isSecond r) (cond (isSpelled r) (laid (bytes y) v) v) (cond (isSpelled r) (laid (bytes x) s) s)) ≡ bytes (named x y r)
   part x y true true true true = take-at (bytes y) (drop (length (bytes y)) v) (length y) (length-bytes y)
   part x y true true true false = take-at (bytes x) (drop (length (bytes x)) s) (length x) (length-bytes x)
   part x y true true false e = refl
   part x y true false d e = refl
   part x y false c d e = refl
 
-  pub part-is : {s′ v′ : List ℕ} {r : Part} → Hands k u t s v s′ v′ r → take (r .len) (pick (r .second) v′ s′) ≡ bytes (handedBack k u t s v)
+  pub part-is : {s′ v′ : List ℕ} {r : Part} → Hands k u t s v s′ v′ r → take (r .len) (cond (r .second) v′ s′) ≡ bytes (handedBack k u t s v)
   unfolding answerOf
   part-is h = rw (h .which, h .len, h .first, h .second) (part (wordU k u t) (wordTUT k u t) (leb k topScale) (completes k u t) (fit k u t (length s) (length v)) (isFewer k u t))

@@ -1,6 +1,6 @@
 -- SPEC, "Gate words": the words of U and of TUT†, each at the front of a lent slice, and the part that is handed back.
 use mathlib.Core.Path.{_≡_}
-use mathlib.Core.Bool.{Bool, true, false}
+use mathlib.Core.Bool.{Bool, true, false, cond, _&&_}
 use mathlib.Core.List.{List, [], _++_}
 use Prim.Native.Nat.{ℕ}
 use lib.Dec.{leb, ltb}
@@ -8,7 +8,6 @@ use lib.ListN.{length, drop}
 use Rattle.ring.specs.declared.Point.{Point}
 use Rattle.equation.specs.Equation.{completes}
 use Rattle.ranges.specs.Ranges.{topScale}
-use Rattle.spelling.specs.Bits.{both, pick}
 use Rattle.spelling.specs.Points.{turn}
 use Rattle.spelling.specs.Table.{Letter}
 use Rattle.spelling.specs.Word.{word, Ts}
@@ -67,15 +66,15 @@ module _ (k : ℕ) (u t : Point) where
   isFewer = ltb (Ts wordTUT) (Ts wordU)
 
   abbrev pub handed : Answer
-  handed = pick isFewer (Second (length wordTUT)) (First (length wordU))
+  handed = cond isFewer (Second (length wordTUT)) (First (length wordU))
 
   -- "13 if and only if either word is longer than its slice", of m and n bytes
   abbrev pub fit : ℕ → ℕ → Bool
-  fit m n = both (leb (length wordU) m) (leb (length wordTUT) n)
+  fit m n = leb (length wordU) m && leb (length wordTUT) n
 
   -- the checks, in their order
   unfoldable pub answerOf : ℕ → ℕ → Answer
-  answerOf m n = pick (leb k topScale) (pick (completes k u t) (pick (fit m n) handed (Refused NoRoom)) (Refused NotUnitary)) (Refused OutOfRange)
+  answerOf m n = cond (leb k topScale) (cond (completes k u t) (cond (fit m n) handed (Refused NoRoom)) (Refused NotUnitary)) (Refused OutOfRange)
 
 -- the bytes of a word at the front of a slice, "whose bytes past the word keep their values"
 abbrev pub laid : List ℕ → List ℕ → List ℕ
@@ -87,10 +86,10 @@ module _ (k : ℕ) (u t : Point) (s v : List ℕ) where
   answer = answerOf k u t (length s) (length v)
 
   abbrev pub firstAfter : List ℕ
-  firstAfter = pick (isSpelled answer) (laid (bytes (wordU k u t)) s) s
+  firstAfter = cond (isSpelled answer) (laid (bytes (wordU k u t)) s) s
 
   abbrev pub secondAfter : List ℕ
-  secondAfter = pick (isSpelled answer) (laid (bytes (wordTUT k u t)) v) v
+  secondAfter = cond (isSpelled answer) (laid (bytes (wordTUT k u t)) v) v
 
   -- what is handed back
   abbrev pub handedBack : List Letter
@@ -110,4 +109,4 @@ module _ (k : ℕ) (u t : Point) (s v : List ℕ) where
 
 -- of two words that are written: which has fewer T
 abbrev pub answerTo : Bool → Word → Word → Answer
-answerTo fits v w = pick fits (pick (ltb (tally (written w)) (tally (written v))) (Second (w .len)) (First (v .len))) (Refused NoRoom)
+answerTo fits v w = cond fits (cond (ltb (tally (written w)) (tally (written v))) (Second (w .len)) (First (v .len))) (Refused NoRoom)

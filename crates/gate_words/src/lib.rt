@@ -1,10 +1,9 @@
 // The words of U and of TUT† in two lent slices: SPEC, "Gate words".
 ghost use mathlib.Core.Path.{_≡_};
-ghost use mathlib.Core.Bool.{true};
+ghost use mathlib.Core.Bool.{true, cond};
 ghost use Prim.Native.Nat.{_≤_};
 ghost use lib.ListN.{length, take};
 ghost use denote.Ref.{ptr};
-ghost use Rattle.spelling.specs.Bits.{pick};
 ghost use Rattle.gates.specs.Written.{written};
 ghost use Rattle.gate_words.specs.Words.{numberOf, number, isSecond, lengthOf, answerTo, laid, Spells, Hands};
 use gates::Word;
@@ -32,6 +31,7 @@ pub struct Part {
 }
 
 impl Refusal {
+    // The number of SPEC, "Refusals".
     pub fn number(self) -> u8
         ensures { λ r. ⌜ r ≡ numberOf self ⌝ }
     {
@@ -44,6 +44,7 @@ impl Refusal {
 }
 
 impl Answer {
+    // The answer taken apart.
     pub fn part(self) -> Part
         ensures { λ r. ⌜ (r .number ≡ number self) × (r .second ≡ isSecond self) × (r .len ≡ lengthOf self) ⌝ }
     {
@@ -70,7 +71,7 @@ impl Answer {
 // The word at the front of a slice, if it goes there.
 fn lay(out: &mut [u8], w: Word, go: bool)
     requires { ⌜ (w .len ≤ 128) × (go ≡ true → w .len ≤ length (now out)) ⌝ }
-    ensures { λ _. ⌜ now (out .exit) ≡ pick go (laid (written w) (now (out .entry))) (now (out .entry)) ⌝ }
+    ensures { λ _. ⌜ now (out .exit) ≡ cond go (laid (written w) (now (out .entry))) (now (out .entry)) ⌝ }
 {
     if go {
         let a = w.letters;
@@ -134,7 +135,7 @@ fn front(s: &[u8], n: usize) -> &[u8]
 
 // The part that an answer names, of one of two lent slices.
 pub fn chosen<'a>(p: Part, first: &'a [u8], second: &'a [u8]) -> &'a [u8]
-    ensures { λ r. ⌜ (now r ≡ take (p .len) (pick (p .second) (now (second .entry)) (now (first .entry)))) × (ptr r ≡ pick (p .second) (ptr (second .entry)) (ptr (first .entry))) ⌝ }
+    ensures { λ r. ⌜ (now r ≡ take (p .len) (cond (p .second) (now (second .entry)) (now (first .entry)))) × (ptr r ≡ cond (p .second) (ptr (second .entry)) (ptr (first .entry))) ⌝ }
 {
     let n = p.len;
     let other = p.second;

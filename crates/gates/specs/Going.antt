@@ -1,6 +1,6 @@
 -- What holds while syllables are written: those that are left fit, and numbers stay small.
 use mathlib.Core.Path.{_≡_, refl, sym, _∙_, ap, subst}
-use mathlib.Core.Bool.{Bool, true, false}
+use mathlib.Core.Bool.{Bool, true, false, cond}
 use mathlib.Core.List.{_++_}
 use Prim.Native.Nat.{ℕ, zero, suc, _+_, _-_, _*_, _%_, _^_, _≤_, _<_}
 use native.Mathlib.Omega.{arith}
@@ -8,7 +8,7 @@ use lib.ListN.{length}
 use borrow.Author.Tests.{eq-eqb, ne-eqb}
 use Rattle.ranges.specs.Ranges.{topScale}
 use Rattle.spelling.specs.declared.State.{State}
-use Rattle.spelling.specs.Bits.{pick, odd, none}
+use Rattle.spelling.specs.Bits.{odd, none}
 use Rattle.spelling.specs.Parities.{parities}
 use Rattle.spelling.specs.State.{isPlain, isBare, plus, next, Stage, last, odds, sides, Ready, Narrow}
 use Rattle.spelling.specs.Step.{step, next-even, next-not}
@@ -71,17 +71,17 @@ module _ {r : ℕ} {s : State} {w : Word} (h : 0 < r) (g : Going r s w) where
 
 -- ---- how many syllables
 pub syllables-none : (s : State) → s .k ≡ 0 → 0 ≡ syllables s
-syllables-none s e = sym (ap (λ b. pick b 0 (pick (odd (parities (s .u))) (2 * s .k - 2 + s .l % 2) (2 * s .k - 3 + (s .l + 1) % 2))) (eq-eqb (s .k) 0 e))
+syllables-none s e = sym (ap (λ b. cond b 0 (cond (odd (parities (s .u))) (2 * s .k - 2 + s .l % 2) (2 * s .k - 3 + (s .l + 1) % 2))) (eq-eqb (s .k) 0 e))
 
 module _ (s : State) (n : s .k ≡ 0 → ⊥) where
-  some : pick (odd (parities (s .u))) (2 * s .k - 2 + s .l % 2) (2 * s .k - 3 + (s .l + 1) % 2) ≡ syllables s
-  some = sym (ap (λ b. pick b 0 (pick (odd (parities (s .u))) (2 * s .k - 2 + s .l % 2) (2 * s .k - 3 + (s .l + 1) % 2))) (ne-eqb (s .k) 0 n))
+  some : cond (odd (parities (s .u))) (2 * s .k - 2 + s .l % 2) (2 * s .k - 3 + (s .l + 1) % 2) ≡ syllables s
+  some = sym (ap (λ b. cond b 0 (cond (odd (parities (s .u))) (2 * s .k - 2 + s .l % 2) (2 * s .k - 3 + (s .l + 1) % 2))) (ne-eqb (s .k) 0 n))
 
   pub syllables-odd : odd (parities (s .u)) ≡ true → 2 * s .k - 2 + s .l % 2 ≡ syllables s
-  syllables-odd o = ap (λ b. pick b (2 * s .k - 2 + s .l % 2) (2 * s .k - 3 + (s .l + 1) % 2)) (sym o) ∙ some
+  syllables-odd o = ap (λ b. cond b (2 * s .k - 2 + s .l % 2) (2 * s .k - 3 + (s .l + 1) % 2)) (sym o) ∙ some
 
   pub syllables-side : odd (parities (s .u)) ≡ false → 2 * s .k - 3 + (s .l + 1) % 2 ≡ syllables s
-  syllables-side o = ap (λ b. pick b (2 * s .k - 2 + s .l % 2) (2 * s .k - 3 + (s .l + 1) % 2)) (sym o) ∙ some
+  syllables-side o = ap (λ b. cond b (2 * s .k - 2 + s .l % 2) (2 * s .k - 3 + (s .l + 1) % 2)) (sym o) ∙ some
 
   pub side-two : {r : ℕ} → Stage r s → odd (parities (s .u)) ≡ false → 2 ≤ s .k
   side-two (last k l m) o = absurd (n k)
@@ -89,7 +89,7 @@ module _ (s : State) (n : s .k ≡ 0 → ⊥) where
   side-two (sides k p q m) o = k
 
   pub plain-some : isPlain s ≡ bareAtZero s
-  plain-some = sym (ap (λ b. pick b true (isPlain s)) (ne-eqb (s .k) 0 n))
+  plain-some = sym (ap (λ b. cond b true (isPlain s)) (ne-eqb (s .k) 0 n))
 
 pub plain-none : (s : State) → s .k ≡ 0 → true ≡ bareAtZero s
-plain-none s e = sym (ap (λ b. pick b true (isPlain s)) (eq-eqb (s .k) 0 e))
+plain-none s e = sym (ap (λ b. cond b true (isPlain s)) (eq-eqb (s .k) 0 e))

@@ -1,6 +1,6 @@
 -- The word from its start to its end: what is written so far, with what is left, is the word.
 use mathlib.Core.Path.{_≡_, refl, sym, _∙_, ap, subst}
-use mathlib.Core.Bool.{Bool, true, false}
+use mathlib.Core.Bool.{Bool, true, false, cond}
 use mathlib.Core.List.{List, [], _∷_, _++_, append-assoc}
 use Prim.Native.Nat.{ℕ, _+_, _-_, _≤_, _<_}
 use native.Mathlib.Omega.{arith}
@@ -9,7 +9,6 @@ use Rattle.ranges.specs.Ranges.{topScale}
 use Rattle.ring.specs.declared.Point.{Point}
 use Rattle.ring.specs.Point.Exponent.{exponentOf}
 use Rattle.spelling.specs.declared.State.{State}
-use Rattle.spelling.specs.Bits.{pick}
 use Rattle.spelling.specs.State.{Equation, isBare, next, Ready}
 use Rattle.spelling.specs.Table.{Letter, T, tail}
 use Rattle.spelling.specs.Word.{syllable, syllables, without-T, front, bareAtZero, spelled, reduced, body, word}
@@ -59,7 +58,7 @@ lead true = []
 lead false = T ∷ []
 
 abbrev pub start : Bool → State → State
-start b s = pick b s (without-T s)
+start b s = cond b s (without-T s)
 
 module _ (k : ℕ) (u t : Point) (e : Equation k u t) (h : k ≤ topScale) {s : State} (d : s ≡ reduced k u t) where
   least : Least (exponentOf k u) s

@@ -1,6 +1,7 @@
 // Parities of a point's coordinates, and what they say of the word's front.
 ghost use mathlib.Core.Path.{_≡_};
-ghost use Rattle.spelling.specs.Bits.{xor, both, sum, odd, rest, full, none, uniform, plain, bare};
+ghost use mathlib.Core.Bool.{_&&_};
+ghost use Rattle.spelling.specs.Bits.{xor, sum, odd, rest, full, none, uniform, plain, bare};
 ghost use Rattle.spelling.specs.Odd.{odd?};
 ghost use Rattle.spelling.specs.Parities.{parities};
 use ring::Point;
@@ -19,7 +20,7 @@ fn either(a: bool, b: bool) -> bool
 }
 
 fn both(a: bool, b: bool) -> bool
-    ensures { λ r. ⌜ r ≡ both a b ⌝ }
+    ensures { λ r. ⌜ r ≡ a && b ⌝ }
 {
     if a { b } else { false }
 }

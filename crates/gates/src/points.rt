@@ -1,10 +1,10 @@
 // Points of 32-bit numbers, small enough that sums fit.
 ghost use mathlib.Core.Path.{_≡_};
+ghost use mathlib.Core.Bool.{cond};
 ghost use Prim.Native.Nat.{_^_, _<_};
 ghost use lib.IntN.{natAbs, negℤ, _+ℤ_, _-ℤ_};
 ghost use Rattle.ring.specs.Point.{_+ω_, _-ω_};
 ghost use Rattle.ring.specs.Point.Divide.{halves};
-ghost use Rattle.spelling.specs.Bits.{pick};
 ghost use Rattle.spelling.specs.Points.{turn, back, halved};
 ghost use Rattle.spelling.specs.State.{Narrow};
 use ring::Point;
@@ -105,7 +105,7 @@ pub(crate) fn times_omega(v: Point) -> Point
 // i^(−1) t, unless b.
 pub(crate) fn unturn(b: bool, t: Point) -> Point
     requires { ⌜ Narrow t ⌝ }
-    ensures { λ r. ⌜ r ≡ pick b t (back (back t)) ⌝ }
+    ensures { λ r. ⌜ r ≡ cond b t (back (back t)) ⌝ }
 {
     if b { t } else { over_omega(over_omega(t)) }
 }

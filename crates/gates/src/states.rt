@@ -1,7 +1,7 @@
 // States: what is left to spell, its reduction to the least exponent, and the step that takes a syllable off the front.
 ghost use mathlib.Core.Path.{_≡_};
+ghost use mathlib.Core.Bool.{cond};
 ghost use Prim.Native.Nat.{_^_, _<_, _≤_};
-ghost use Rattle.spelling.specs.Bits.{pick};
 ghost use Rattle.spelling.specs.State.{Narrow, next};
 ghost use Rattle.spelling.specs.Word.{reduced};
 use crate::parity::bare;
@@ -19,7 +19,7 @@ use spelling::State;
 
 // How far the phase moves with a syllable.
 fn shift(b: bool) -> u32
-    ensures { λ r. ⌜ r ≡ pick b 3 1 ⌝ }
+    ensures { λ r. ⌜ r ≡ cond b 3 1 ⌝ }
 {
     if b { 3 } else { 1 }
 }

@@ -1,8 +1,8 @@
 // The tails: a word in H, S and W for each of the 192 Clifford matrices with phase.
 ghost use mathlib.Core.Path.{_≡_};
+ghost use mathlib.Core.Bool.{cond};
 ghost use Prim.Native.Nat.{_+_, _<_, _≤_};
 ghost use lib.ListN.{getD};
-ghost use Rattle.spelling.specs.Bits.{pick};
 ghost use Rattle.spelling.specs.Table.{positive, negative, log, index, tails, tail};
 ghost use Rattle.gates.specs.Written.{Adds};
 use crate::letters::Word;
@@ -219,7 +219,7 @@ fn negative(z: i32) -> bool
 }
 
 fn pick(b: bool, x: usize, y: usize) -> usize
-    ensures { λ r. ⌜ r ≡ pick b x y ⌝ }
+    ensures { λ r. ⌜ r ≡ cond b x y ⌝ }
 {
     if b { x } else { y }
 }

@@ -7,6 +7,7 @@ use session::Answer;
 use session::Outcome;
 use session::Session;
 
+// One reading: a record from the front of the bytes joins the session, or is refused.
 pub fn read(s: Session, bytes: &[u8]) -> Outcome
     ensures { λ r. ⌜ Steps (reading (now (bytes .entry))) [] s (r .session) (r .answer) ⌝ }
 {
@@ -18,6 +19,7 @@ pub fn read(s: Session, bytes: &[u8]) -> Outcome
     }
 }
 
+// A hand-out: as many of the next listed points as the slice has space for.
 pub fn hand_out(s: Session, out: &mut [i32]) -> Outcome
     ensures { λ r. ⌜ Hands s (now (out .entry)) (now (out .exit)) (r .session) (r .answer) ⌝ }
 {
@@ -29,6 +31,7 @@ pub fn hand_out(s: Session, out: &mut [i32]) -> Outcome
     }
 }
 
+// Back before the first point.
 pub fn rewind(s: Session) -> Outcome
     ensures { λ r. ⌜ Steps rewinding [] s (r .session) (r .answer) ⌝ }
 {
@@ -40,6 +43,7 @@ pub fn rewind(s: Session) -> Outcome
     }
 }
 
+// A fresh session again.
 pub fn clear(s: Session) -> Outcome
     ensures { λ r. ⌜ Steps clearing [] s (r .session) (r .answer) ⌝ }
 {
@@ -51,18 +55,21 @@ pub fn clear(s: Session) -> Outcome
     }
 }
 
+// Whether the job lists a point.
 pub fn has_solution(s: Session) -> Answer
     ensures { λ r. ⌜ Steps plain [] s s r ⌝ }
 {
     lent::has_solution(&s)
 }
 
+// Whether w is what the remembered operator makes of a listed point.
 pub fn has_image(s: Session, w: Point) -> Answer
     ensures { λ r. ⌜ Steps (imageOf w) [] s s r ⌝ }
 {
     lent::has_image(&s, w)
 }
 
+// The shortest pattern that the job allows.
 pub fn shortest(s: Session) -> Answer
     ensures { λ r. ⌜ Steps shortestOf [] s s r ⌝ }
 {

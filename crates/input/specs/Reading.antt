@@ -1,6 +1,6 @@
 -- An accepted reading takes a byte at least and no more than there are; and the records from a place on, by the reading there.
 use mathlib.Core.Path.{_≡_, refl, sym, ap, _∙_}
-use mathlib.Core.List.{List, [], _∷_}
+use mathlib.Core.List.{List}
 use Prim.Native.Nat.{ℕ, zero, suc, _+_, _-_, _≤_, _<_}
 use native.Mathlib.Omega.{arith}
 use borrow.Author.Tests.{lt-ltb, le-ltb}
@@ -13,7 +13,7 @@ use Rattle.record.specs.declared.Record.the-variants as R
 use Rattle.kinds.specs.declared.Turn.the-variants as T
 use Rattle.record.specs.Record.{readingOf}
 use Rattle.record.specs.Taken.{reading-takes}
-use Rattle.calls.specs.Session.{reading, refused, taken, handed, done, says, early, walking, step, joined, remembered}
+use Rattle.calls.specs.Session.{reading, refused, taken, early, walking, step, joined, remembered}
 use Rattle.calls.specs.Session as Model
 use Rattle.ranks.specs.Rest.{Place}
 use mathlib.Core.Bool.{Bool}

@@ -16,6 +16,7 @@ pub enum Input {
     TooLong,
 }
 
+// What the records of an input come to.
 pub fn load(bytes: &[u8]) -> Input
     ensures { λ r. ⌜ loadedOf r ≡ loadOf (now (bytes .entry)) ⌝ }
 {

@@ -1,6 +1,6 @@
 -- SPEC, "Gate words": what is true of the words, for all k, u and t that solve the equation of Ticket 2.
 use mathlib.Core.Path.{_≡_, sym, _∙_, ap}
-use mathlib.Core.Bool.{true, false}
+use mathlib.Core.Bool.{true, false, cond}
 use mathlib.Core.List.{List}
 use Prim.Native.Nat.{ℕ, _≤_, _<_, min}
 use native.Mathlib.Omega.{arith}
@@ -11,11 +11,10 @@ use borrow.Author.Tests.{lt-ltb, le-ltb, ltb-false}
 use Rattle.ring.specs.declared.Point.{Point}
 use Rattle.ring.specs.Point.Exponent.{exponentOf, pulseCount, pulse-is}
 use Rattle.equation.specs.Equation.{completes}
-use Rattle.spelling.specs.Bits.{pick}
 use Rattle.spelling.specs.Points.{turn}
 use Rattle.spelling.specs.Table.{Letter}
 use Rattle.spelling.specs.Word.{Ts}
-use Rattle.spelling.specs.Matrix.{matrix, Spells, made}
+use Rattle.spelling.specs.Matrix.{Spells, made}
 use Rattle.spelling.specs.Least.{equation-turn}
 use Rattle.spelling.specs.Number.{least-Ts}
 use Rattle.spelling.specs.Exact as Exact
@@ -53,8 +52,8 @@ module _ (k : ℕ) (u t : Point) (e : completes k u t ≡ true) where
   handed-Ts = fewer (decLt (Ts (wordTUT k u t)) (Ts (wordU k u t))) ∙ least-Ts k u t (solves k u t e) ∙ sym (pulse-is (exponentOf k u))
     where
       fewer : Dec (Ts (wordTUT k u t) < Ts (wordU k u t)) → Ts (named (wordU k u t) (wordTUT k u t) (handed k u t)) ≡ min (Ts (wordU k u t)) (Ts (wordTUT k u t))
-      fewer (yes l) = ap (λ b. Ts (named (wordU k u t) (wordTUT k u t) (pick b (Second (length (wordTUT k u t))) (First (length (wordU k u t)))))) (lt-ltb (Ts (wordTUT k u t)) (Ts (wordU k u t)) l) ∙ sym (min-eq-right {n = Ts (wordTUT k u t)} {m = Ts (wordU k u t)} (omega arith))
-      fewer (no l) = ap (λ b. Ts (named (wordU k u t) (wordTUT k u t) (pick b (Second (length (wordTUT k u t))) (First (length (wordU k u t)))))) (le-ltb (Ts (wordTUT k u t)) (Ts (wordU k u t)) (omega arith)) ∙ sym (min-eq-left {n = Ts (wordU k u t)} {m = Ts (wordTUT k u t)} (omega arith))
+      fewer (yes l) = ap (λ b. Ts (named (wordU k u t) (wordTUT k u t) (cond b (Second (length (wordTUT k u t))) (First (length (wordU k u t)))))) (lt-ltb (Ts (wordTUT k u t)) (Ts (wordU k u t)) l) ∙ sym (min-eq-right {n = Ts (wordTUT k u t)} {m = Ts (wordU k u t)} (omega arith))
+      fewer (no l) = ap (λ b. Ts (named (wordU k u t) (wordTUT k u t) (cond b (Second (length (wordTUT k u t))) (First (length (wordU k u t)))))) (le-ltb (Ts (wordTUT k u t)) (Ts (wordU k u t)) (omega arith)) ∙ sym (min-eq-left {n = Ts (wordU k u t)} {m = Ts (wordTUT k u t)} (omega arith))
 
   -- "whichever slice has fewer T, that of U if equal"
   pub U-unless : isFewer k u t ≡ false → Ts (wordU k u t) ≤ Ts (wordTUT k u t)

@@ -10,6 +10,7 @@ pub struct Outcome<'a> {
     pub word: &'a [u8],
 }
 
+// The words of U and of TUT† at the start of the two slices, and the one with fewer T.
 pub fn words<'a>(
     k: u8,
     u: Point,

@@ -1,6 +1,6 @@
 -- The rows that the walk through the scaled pairs passes over have no pair: what the walk asks for holds, and what it finds is said of the problem itself.
 use mathlib.Core.Path.{_≡_, refl, sym, _∙_, ap, subst, subst₂}
-use mathlib.Core.Bool.{Bool, true, false, false≢true}
+use mathlib.Core.Bool.{Bool, true, false, false≢true, _&&_}
 use Prim.Native.Nat.{ℕ, _*_, _^_, _≤_}
 use native.Mathlib.Omega.{arith}
 use lib.IntN.{ℤ, pos, negℤ, natAbs, _-ℤ_, _*ℤ_}
@@ -43,9 +43,9 @@ interval-ends i r =
 pub solves-turned : (i j : Interval) (a b : ℤ) → solves i j a b ≡ true → solves j i a (negℤ b) ≡ true
 unfolding solves
 solves-turned i j a b e =
-    subst₂ (λ (x y : RootTwo). both (holds j x) (holds i y) ≡ true) (conj-parts (at a b)) (sym (back a b)) (swap (holds i (at a b)) (holds j (conj (at a b))) e)
+    subst₂ (λ (x y : RootTwo). holds j x && holds i y ≡ true) (conj-parts (at a b)) (sym (back a b)) (swap (holds i (at a b)) (holds j (conj (at a b))) e)
   where
-    swap : (x y : Bool) → both x y ≡ true → both y x ≡ true
+    swap : (x y : Bool) → x && y ≡ true → y && x ≡ true
     swap true true e = refl
     swap true false e = e
     swap false true e = e

@@ -55,7 +55,7 @@ digit-≺ x y h = go (pos x) (pos y) (pos middle) (record { lt = lt→ltb x y h 
     go (no l) = omega arith
 
 -- ---- rows
-pub solved-row : (s t : Strip) (a b : ℤ) → solved s t (at a b) ≡ both (lower s t a b) (upper s t a b)
+pub solved-row : (s t : Strip) (a b : ℤ) → solved s t (at a b) ≡ lower s t a b && upper s t a b
 solved-row s t a b = regroup (above s (at a b)) (below s (at a b)) (above t (conj (at a b))) (below t (conj (at a b)))
 
 pub near : (s t : Strip) (x y : ℕ) → Ends scaled s → Ends scaled t → x ≤ top → y ≤ top → Near s t middle x y

@@ -2,14 +2,14 @@
 use mathlib.Core.Path.{_≡_, refl, sym, ap, ap₂, _∙_}
 use mathlib.Core.Bool.{Bool, true, false, not}
 use mathlib.Core.List.{List, [], _∷_}
-use Prim.Native.Nat.{ℕ, suc, _+_, _-_, _*_, _/_, _≤_, _<_}
+use Prim.Native.Nat.{ℕ, _-_, _*_, _/_, _≤_, _<_}
 use native.Mathlib.Nat.{min-le-left}
 use native.Mathlib.Omega.{arith}
 use lib.IntN.{ℤ}
 use lib.ListN.{length, take, drop, length-take, length-drop}
-use Rattle.ranks.specs.Rest.{Place, at, ended, isNil, placeOf, rest, leftAt, left-place}
+use Rattle.ranks.specs.Rest.{at, ended, isNil, rest, leftAt, left-place}
 use Rattle.ranks.specs.Rank.{top}
-use Rattle.ranks.specs.Handed.{flat, put, take-put}
+use Rattle.ranks.specs.Handed.{put, take-put}
 use Rattle.cuts.specs.Digits.{span}
 use Rattle.walk.specs.Walk.{listedAt, numbersOf}
 use Rattle.calls.specs.Session.{handOut, refused, taken, handed, done, says, best, early, walking, step}

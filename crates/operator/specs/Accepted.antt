@@ -1,7 +1,7 @@
 -- What the test says of an operator that it accepts: the size of its numbers, its parity, its determinant.
 use mathlib.Core.Path.{_≡_, refl, sym, _∙_, ap, subst}
 use mathlib.Core.Logic.{_⊎_, inl, inr}
-use mathlib.Core.Bool.{Bool, true, false}
+use mathlib.Core.Bool.{Bool, true, false, cond, _&&_, _||_}
 use Prim.Native.Nat.{ℕ, zero, suc, _≤_, zero-le}
 use native.Mathlib.Omega.{arith}
 use lib.Dec.{T, eqb}
@@ -15,14 +15,14 @@ use Rattle.integers.specs.Difference.{_≼_}
 use Rattle.integers.specs.Order.{≼-antisym}
 use Rattle.operator.specs.declared.Operator.{Operator}
 use Rattle.operator.specs.declared.Check.the-variants.{Special, OutOfRange, OddParity, NotSpecial}
-use Rattle.operator.specs.Operator.{both, either, within, allWithin, inRange, evenParity, detWhole, detRoot, equalZ, special, pick, checkOf}
+use Rattle.operator.specs.Operator.{within, allWithin, inRange, evenParity, detWhole, detRoot, equalZ, special, checkOf}
 
-pub both-true : (x y : Bool) → both x y ≡ true → (x ≡ true) × (y ≡ true)
+pub both-true : (x y : Bool) → x && y ≡ true → (x ≡ true) × (y ≡ true)
 both-true true true h = (refl, refl)
 both-true true false h = let z : _≡_ {A = ℕ} 0 1 = cc in absurd (omega arith)
 both-true false y h = let z : _≡_ {A = ℕ} 0 1 = cc in absurd (omega arith)
 
-either-true : (x y : Bool) → either x y ≡ true → (x ≡ true) ⊎ (y ≡ true)
+either-true : (x y : Bool) → x || y ≡ true → (x ≡ true) ⊎ (y ≡ true)
 either-true true y h = inl refl
 either-true false y h = inr h
 
@@ -104,12 +104,12 @@ pub accepted : (g : Operator) → checkOf g ≡ Special → Accepted g
 unfolding checkOf inRange special
 accepted g h = go (inRange g) (evenParity g) (special g) refl refl refl h
   where
-    unit : (d : ℤ) → either (equalZ d (pos 1)) (equalZ d (negsuc 0)) ≡ true → d *ℤ d ≡ pos 1
+    unit : (d : ℤ) → equalZ d (pos 1) || equalZ d (negsuc 0) ≡ true → d *ℤ d ≡ pos 1
     unit d h = elim (either-true (equalZ d (pos 1)) (equalZ d (negsuc 0)) h) [ inl e ↦ rw (equal-true d (pos 1) e) refl | inr e ↦ rw (equal-true d (negsuc 0) e) refl ]
 
-    go : (r p s : Bool) → inRange g ≡ r → evenParity g ≡ p → special g ≡ s → pick r (pick p (pick s Special NotSpecial) OddParity) OutOfRange ≡ Special → Accepted g
+    go : (r p s : Bool) → inRange g ≡ r → evenParity g ≡ p → special g ≡ s → cond r (cond p (cond s Special NotSpecial) OddParity) OutOfRange ≡ Special → Accepted g
     go true true true e f k h =
-        let u = both-true (either (equalZ (detWhole g) (pos 1)) (equalZ (detWhole g) (negsuc 0))) (equalZ (detRoot g) (pos 0)) k in
+        let u = both-true (equalZ (detWhole g) (pos 1) || equalZ (detWhole g) (negsuc 0)) (equalZ (detRoot g) (pos 0)) k in
         record { small = within-small 100 g e; even = f; unit = unit (detWhole g) (u .0); zero = equal-true (detRoot g) (pos 0) (u .1) }
     go true true false e f k h = let z : _≡_ {A = ℕ} 0 1 = cc in absurd (omega arith)
     go true false s e f k h = let z : _≡_ {A = ℕ} 0 1 = cc in absurd (omega arith)

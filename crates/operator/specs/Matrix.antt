@@ -1,13 +1,12 @@
 -- An operator as a two-by-two matrix of numbers p + q/√2: SPEC, "Operators"; the Note, equation 37.
 use mathlib.Core.Path.{_≡_}
-use mathlib.Core.Bool.{Bool, cond}
+use mathlib.Core.Bool.{Bool, cond, _&&_}
 use mathlib.Core.List.{List, [], _∷_}
 use Prim.Native.Nat.{ℕ, _^_}
 use lib.Dec.{leb}
 use lib.IntN.{pos, natAbs, _+ℤ_, _-ℤ_, _*ℤ_}
 use lib.ListN.{getD}
 use Rattle.integers.specs.Parity.{half}
-use Rattle.ranges.specs.Ranges.{both}
 use Rattle.operator.specs.declared.Operator.{Operator}
 use Rattle.operator.specs.declared.Entry.{Entry}
 
@@ -56,13 +55,13 @@ determinantOf m = crossed (at m 0 0) (at m 1 1) (at m 0 1) (at m 1 0)
 
 -- ---- any matrices: entries up to 2^30 in size, as those of every operator are, have products within 64 bits; a larger one has the product and the determinant 0
 abbrev pub entryWithin : Entry → Bool
-entryWithin e = both (leb (natAbs (e .p)) (2 ^ 30)) (leb (natAbs (e .q)) (2 ^ 30))
+entryWithin e = leb (natAbs (e .p)) (2 ^ 30) && leb (natAbs (e .q)) (2 ^ 30)
 
 unfoldable pub isWithin : Matrix → Bool
-isWithin m = both (both (entryWithin (at m 0 0)) (entryWithin (at m 0 1))) (both (entryWithin (at m 1 0)) (entryWithin (at m 1 1)))
+isWithin m = entryWithin (at m 0 0) && entryWithin (at m 0 1) && (entryWithin (at m 1 0) && entryWithin (at m 1 1))
 
 unfoldable pub productWithin : Matrix → Matrix → Matrix
-productWithin m n = cond (both (isWithin m) (isWithin n)) (productOf m n) ((none ∷ none ∷ []) ∷ (none ∷ none ∷ []) ∷ [])
+productWithin m n = cond (isWithin m && isWithin n) (productOf m n) ((none ∷ none ∷ []) ∷ (none ∷ none ∷ []) ∷ [])
 
 unfoldable pub determinantWithin : Matrix → Entry
 determinantWithin m = cond (isWithin m) (determinantOf m) none

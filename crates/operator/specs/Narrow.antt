@@ -1,6 +1,6 @@
 -- A point of four 64-bit numbers as a point of 32-bit ones, where all four fit.
 use mathlib.Core.Path.{_≡_, refl, subst}
-use mathlib.Core.Bool.{Bool, true, false}
+use mathlib.Core.Bool.{Bool, true, false, cond}
 use Prim.Native.Nat.{ℕ, _^_}
 use native.Mathlib.Omega.{arith}
 use lib.Dec.{ltb}
@@ -11,7 +11,7 @@ use mir.Syntax.{w32}
 use mir.Val.{SFits}
 use Rattle.integers.specs.declared.Narrow.{Narrow}
 use Rattle.integers.specs.declared.Narrow.the-variants as N
-use Rattle.integers.specs.Narrow.{pick, narrowOf, narrow-fits}
+use Rattle.integers.specs.Narrow.{narrowOf, narrow-fits}
 use Rattle.ring.specs.declared.Point.{Point}
 use Rattle.operator.specs.declared.WidePoint.{WidePoint}
 use Rattle.operator.specs.declared.Narrowed.{Narrowed}
@@ -33,7 +33,7 @@ pub narrow-is : (z x : ℤ) → narrowOf z ≡ N.Fits x → (z ≡ x) × SFits w
 unfolding narrowOf
 narrow-is z x e = go (ltb (mag z) (2 ^ 31)) refl e
   where
-    go : (b : Bool) → ltb (mag z) (2 ^ 31) ≡ b → pick b (N.Fits z) N.TooWide ≡ N.Fits x → (z ≡ x) × SFits w32 x
+    go : (b : Bool) → ltb (mag z) (2 ^ 31) ≡ b → cond b (N.Fits z) N.TooWide ≡ N.Fits x → (z ≡ x) × SFits w32 x
     go true h f = let k : z ≡ x = cc in (k, subst (SFits w32) k (record { sfits = ltb-true (mag z) (2 ^ 31) h }))
     go false h f = let w : _≡_ {A = ℕ} 0 1 = cc in absurd (omega arith)
 

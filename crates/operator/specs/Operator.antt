@@ -1,12 +1,11 @@
 -- Grid operators: SPEC, "Operators"; the Note, Lemma 3.8 and equations 45 to 48.
 use mathlib.Core.Path.{_≡_, ap}
-use mathlib.Core.Bool.{Bool, true, false}
+use mathlib.Core.Bool.{Bool, cond, _&&_, _||_}
 use Prim.Native.Nat.{ℕ}
 use lib.IntN.{ℤ, pos, negsuc, negℤ, _+ℤ_, _-ℤ_, _*ℤ_}
 use lib.Signed.{leZ}
 use Rattle.integers.specs.Parity.{even, half}
 use Rattle.ring.specs.declared.Point.{Point}
-pub use Rattle.ranges.specs.Ranges.{both}
 use Rattle.operator.specs.declared.Operator.{Operator}
 use Rattle.operator.specs.declared.WidePoint.{WidePoint}
 use Rattle.operator.specs.declared.Check.{Check}
@@ -23,25 +22,21 @@ refusal NotSpecial = 7
 abbrev pub identity : Operator
 identity = record { a = pos 0; b = pos 0; c = pos 0; d = pos 1; ai = pos 0; bi = pos 1; ci = pos 0; di = pos 0 }
 
-abbrev pub either : Bool → Bool → Bool
-either true b = true
-either false b = b
-
 -- SPEC, "Records": eight signed 16-bit numbers from −100 to 100
 abbrev pub within : ℤ → ℤ → Bool
-within m z = both (leZ (negℤ m) z) (leZ z m)
+within m z = leZ (negℤ m) z && leZ z m
 
 abbrev pub allWithin : ℤ → Operator → Bool
 allWithin m g =
-    both (both (both (within m (g .a)) (within m (g .b))) (both (within m (g .c)) (within m (g .d))))
-    (both (both (within m (g .ai)) (within m (g .bi))) (both (within m (g .ci)) (within m (g .di))))
+    within m (g .a) && within m (g .b) && (within m (g .c) && within m (g .d))
+    && (within m (g .ai) && within m (g .bi) && (within m (g .ci) && within m (g .di)))
 
 unfoldable pub inRange : Operator → Bool
 inRange g = allWithin (pos 100) g
 
 -- a grid operator: a + c + a' + c' and b + d + b' + d' are even
 unfoldable pub evenParity : Operator → Bool
-evenParity g = both (even (g .a +ℤ g .c +ℤ g .ai +ℤ g .ci)) (even (g .b +ℤ g .d +ℤ g .bi +ℤ g .di))
+evenParity g = even (g .a +ℤ g .c +ℤ g .ai +ℤ g .ci) && even (g .b +ℤ g .d +ℤ g .bi +ℤ g .di)
 
 -- the two parts of the determinant: db' − d'b + ca' − ac', and d(c' + a') + b'(c − a) − d'(c + a) − b(c' − a')
 unfoldable pub detWhole : Operator → ℤ
@@ -51,19 +46,15 @@ unfoldable pub detRoot : Operator → ℤ
 detRoot g = g .d *ℤ (g .ci +ℤ g .ai) +ℤ g .bi *ℤ (g .c -ℤ g .a) -ℤ g .di *ℤ (g .c +ℤ g .a) -ℤ g .b *ℤ (g .ci -ℤ g .ai)
 
 abbrev pub equalZ : ℤ → ℤ → Bool
-equalZ x y = both (leZ x y) (leZ y x)
+equalZ x y = leZ x y && leZ y x
 
 -- special: the first is 1 or −1 and the second is 0
 unfoldable pub special : Operator → Bool
-special g = both (either (equalZ (detWhole g) (pos 1)) (equalZ (detWhole g) (negsuc 0))) (equalZ (detRoot g) (pos 0))
-
-abbrev pub pick : Bool → Check → Check → Check
-pick true x y = x
-pick false x y = y
+special g = (equalZ (detWhole g) (pos 1) || equalZ (detWhole g) (negsuc 0)) && equalZ (detRoot g) (pos 0)
 
 -- refusals in the order of SPEC, "Operators": 4, then 6 for an odd parity sum, then 7 for an even one that isn't special
 unfoldable pub checkOf : Operator → Check
-checkOf g = pick (inRange g) (pick (evenParity g) (pick (special g) Special NotSpecial) OddParity) OutOfRange
+checkOf g = cond (inRange g) (cond (evenParity g) (cond (special g) Special NotSpecial) OddParity) OutOfRange
 
 -- the number that the test of an operator comes to
 abbrev pub refusalOf : Operator → ℕ

@@ -1,6 +1,6 @@
 -- Matrices with numbers up to 2^30 in size: those of every operator are such, and so their product and determinant are exact.
 use mathlib.Core.Path.{_≡_, refl}
-use mathlib.Core.Bool.{true}
+use mathlib.Core.Bool.{true, _&&_}
 use Prim.Native.Nat.{zero, suc, _^_}
 use native.Mathlib.Omega.{arith}
 use lib.Dec.{leb}
@@ -8,7 +8,6 @@ use lib.IntN.{natAbs}
 use borrow.Author.Tests.{leb-true, le-leb}
 use Rattle.operator.specs.declared.Operator.{Operator}
 use Rattle.operator.specs.declared.Entry.{Entry}
-use Rattle.operator.specs.Operator.{both}
 use Rattle.operator.specs.Matrix.{Matrix, at, matrixOf, productOf, determinantOf, entryWithin, isWithin, productWithin, determinantWithin}
 use Rattle.operator.specs.Accepted.{both-true}
 use Rattle.operator.specs.Bounded.{BoundedEntry, BoundedMatrix, Fits16, matrix-bounded}
@@ -24,7 +23,7 @@ entry-within e h = rw (le-leb (natAbs (e .p)) (2 ^ 30) (h .p), le-leb (natAbs (e
 pub within-bounded : (m : Matrix) → isWithin m ≡ true → BoundedMatrix m
 unfolding isWithin
 within-bounded m h =
-    let r = both-true (both (entryWithin (at m 0 0)) (entryWithin (at m 0 1))) (both (entryWithin (at m 1 0)) (entryWithin (at m 1 1))) h in
+    let r = both-true (entryWithin (at m 0 0) && entryWithin (at m 0 1)) (entryWithin (at m 1 0) && entryWithin (at m 1 1)) h in
     go (both-true (entryWithin (at m 0 0)) (entryWithin (at m 0 1)) (r .0)) (both-true (entryWithin (at m 1 0)) (entryWithin (at m 1 1)) (r .1))
   where
     go : (entryWithin (at m 0 0) ≡ true) × (entryWithin (at m 0 1) ≡ true) → (entryWithin (at m 1 0) ≡ true) × (entryWithin (at m 1 1) ≡ true) → BoundedMatrix m

@@ -1,15 +1,16 @@
 // What the test of an operator asks of its numbers.
 ghost use mathlib.Core.Path.{_≡_};
-ghost use Rattle.operator.specs.Operator.{both, either, equalZ};
+ghost use mathlib.Core.Bool.{_&&_, _||_};
+ghost use Rattle.operator.specs.Operator.{equalZ};
 
 pub(crate) fn both(x: bool, y: bool) -> bool
-    ensures { λ r. ⌜ r ≡ both x y ⌝ }
+    ensures { λ r. ⌜ r ≡ x && y ⌝ }
 {
     if x { y } else { false }
 }
 
 pub(crate) fn either(x: bool, y: bool) -> bool
-    ensures { λ r. ⌜ r ≡ either x y ⌝ }
+    ensures { λ r. ⌜ r ≡ x || y ⌝ }
 {
     if x { true } else { y }
 }

@@ -100,6 +100,7 @@ impl Operator {
         di: 0,
     };
 
+    // The identity, from a call.
     pub fn identity() -> Operator
         ensures { λ r. ⌜ r ≡ identity ⌝ }
     {

@@ -1,7 +1,7 @@
 -- Pieces of one line: how long they are, and how they stand in a slice. Assumes nothing.
-use Prim.Native.Nat.{ℕ, _+_, _^_, _≤_, _<_}
+use Prim.Native.Nat.{ℕ, _^_, _≤_, _<_}
 use mathlib.Core.Path.{_≡_, refl, sym, ap, subst, _∙_}
-use mathlib.Core.List.{List, [], _∷_, _++_}
+use mathlib.Core.List.{List, []}
 use native.Mathlib.Nat.{lt-of-lt-of-le}
 use native.Mathlib.Omega.{arith}
 use borrow.Author.Tests.{lt-ltb, le-ltb}
@@ -11,7 +11,6 @@ use Rattle.kinds.specs.declared.Refusal.{Refusal}
 use Rattle.kinds.specs.declared.Refusal.the-variants as F
 use Rattle.kinds.specs.Kinds.{number}
 use Rattle.text.specs.Append.{Appended, appended}
-use Rattle.text.specs.Decimal.{decimal}
 use Rattle.words.specs.Meaning.{sizeOf}
 use Rattle.text.specs.Written.{written, after}
 use Rattle.words.specs.declared.Size.{Size}

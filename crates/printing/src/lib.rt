@@ -30,6 +30,7 @@ pub fn print_count(fd: i32, bytes: &[u8]) {
     print_from(fd, o);
 }
 
+// A text, whole.
 pub fn print(fd: i32, text: &[u8]) {
     io::write_all(fd, text);
 }

@@ -1,6 +1,6 @@
 -- One reading: SPEC, "Records" and "Refusals". It takes one record from the front of the bytes, or refuses it.
 use mathlib.Core.Path.{_≡_, refl, ap}
-use mathlib.Core.Bool.{Bool, true, false}
+use mathlib.Core.Bool.{Bool, true, false, cond}
 use mathlib.Core.List.{List, [], _∷_}
 use Prim.Native.Nat.{ℕ, _-_, _<_, _≤_}
 use native.Mathlib.Omega.{arith}
@@ -35,13 +35,9 @@ use Rattle.kinds.specs.Kinds.{number, kindOf, bodyLength, inTurn, isKnown, admi
 use Rattle.fields.specs.Field.{unsignedAt, signedAt, one}
 
 -- ---- bodies
-abbrev pub pick : Bool → Reading → Reading → Reading
-pick true x y = x
-pick false x y = y
-
 -- 01: scale k, 0 to 20
 unfoldable pub scaleOf : List ℕ → Reading
-scaleOf s = pick (leb (unsignedAt 1 s 0) Reg.topScale) (Accepted (Rec.Scale (unsignedAt 1 s 0)) 2) (Refused OutOfRange)
+scaleOf s = cond (leb (unsignedAt 1 s 0) Reg.topScale) (Accepted (Rec.Scale (unsignedAt 1 s 0)) 2) (Refused OutOfRange)
 
 -- 02: n, then xl, xh, yl, yh
 unfoldable pub rectangleOf : List ℕ → Rectangle
@@ -71,8 +67,8 @@ operatorOf s = record {
 -- 06: 0 for new points only, 1 for all
 unfoldable pub selectionOf : List ℕ → Reading
 selectionOf s =
-    pick (eqb (unsignedAt 1 s 0) 0) (Accepted (Rec.Selection false) 2)
-    (pick (eqb (unsignedAt 1 s 0) 1) (Accepted (Rec.Selection true) 2) (Refused OutOfRange))
+    cond (eqb (unsignedAt 1 s 0) 0) (Accepted (Rec.Selection false) 2)
+    (cond (eqb (unsignedAt 1 s 0) 1) (Accepted (Rec.Selection true) 2) (Refused OutOfRange))
 
 -- what the check of a region, and of an operator, makes of a reading that took n bytes
 abbrev pub regionReading : RegionCheck.Check → Region → ℕ → Reading

@@ -1,6 +1,6 @@
 -- An accepted reading takes its kind byte and its body: one byte at least, and no more than there are.
 use mathlib.Core.Path.{_≡_, refl, sym, _∙_}
-use mathlib.Core.Bool.{Bool, true, false}
+use mathlib.Core.Bool.{Bool, true, false, cond}
 use mathlib.Core.List.{List, [], _∷_}
 use Prim.Native.Nat.{ℕ, suc, _≤_}
 use native.Mathlib.Omega.{arith}
@@ -38,11 +38,11 @@ module _ (x : Record) (n : ℕ) where
   same : (y : Record) (m : ℕ) → Accepted y m ≡ Accepted x n → n ≡ m
   same y m e = cc
 
-  picked : (b : Bool) (y : Record) (m : ℕ) (f : Refusal) → pick b (Accepted y m) (Refused f) ≡ Accepted x n → n ≡ m
+  picked : (b : Bool) (y : Record) (m : ℕ) (f : Refusal) → cond b (Accepted y m) (Refused f) ≡ Accepted x n → n ≡ m
   picked true y m f e = same y m e
   picked false y m f e = never f e
 
-  selected : (b c : Bool) → pick b (Accepted (Rec.Selection false) 2) (pick c (Accepted (Rec.Selection true) 2) (Refused OutOfRange)) ≡ Accepted x n → n ≡ 2
+  selected : (b c : Bool) → cond b (Accepted (Rec.Selection false) 2) (cond c (Accepted (Rec.Selection true) 2) (Refused OutOfRange)) ≡ Accepted x n → n ≡ 2
   selected true c e = same _ 2 e
   selected false c e = picked c (Rec.Selection true) 2 OutOfRange e
 

@@ -5,6 +5,7 @@ use crate::Rectangle;
 use crate::Region;
 
 impl Region {
+    // Whether it is seen to hold nothing.
     pub fn is_void(self) -> bool
         ensures { λ r. ⌜ r ≡ isVoid self ⌝ }
     {

@@ -11,7 +11,7 @@ use crate::Sign;
 use crate::signs::sign_of;
 
 // a·b + c·d.
-fn dot(a: i64, b: i64, c: i64, d: i64) -> i64
+pub fn dot(a: i64, b: i64, c: i64, d: i64) -> i64
     requires { ⌜ natAbs (a *ℤ b) + natAbs (c *ℤ d) < 2 ^ 63 ⌝ }
     ensures { λ r. ⌜ r ≡ a *ℤ b +ℤ c *ℤ d ⌝ }
 {
@@ -48,6 +48,7 @@ pub fn offset(m: i64, x: RootTwo, n: i64, y: RootTwo) -> RootTwo
     }
 }
 
+// x·y.
 pub fn product(x: RootTwo, y: RootTwo) -> RootTwo
     requires { ⌜ Products x y ⌝ }
     ensures { λ r. ⌜ r ≡ x ⊠ y ⌝ }
@@ -58,6 +59,7 @@ pub fn product(x: RootTwo, y: RootTwo) -> RootTwo
     }
 }
 
+// −x.
 pub fn opposite(x: RootTwo) -> RootTwo
     requires { ⌜ Sized (2 ^ 60) (2 ^ 60) x ⌝ }
     ensures { λ r. ⌜ r ≡ neg x ⌝ }

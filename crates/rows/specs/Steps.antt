@@ -1,7 +1,7 @@
 -- The two steps that Algorithm 2.2 of the Note takes before it counts a and b: the shift by α₀ (Lemma 2.3) and the scaling by λ^n (Lemma 2.4), over strips with ends
 -- in Z[√2]. Each is an equation of two tests, so that no pair is lost and none is added, whatever the strips are: of one point, empty, or the wrong way round.
 use mathlib.Core.Path.{_≡_, refl, sym, _∙_, ap, ap₂, subst}
-use mathlib.Core.Bool.{Bool, true, false, false≢true}
+use mathlib.Core.Bool.{Bool, true, false, not, false≢true, _&&_}
 use mathlib.Core.List.{[], _∷_}
 use Prim.Native.Nat.{ℕ, zero, suc}
 use lib.IntN.{ℤ, pos, negsuc, _+ℤ_, _*ℤ_}
@@ -16,18 +16,18 @@ use Rattle.rows.specs.Row.{at, above, below}
 
 -- lo ≤ m·z ≤ hi
 abbrev pub meets : Strip → RootTwo → Bool
-meets s z = both (above s z) (below s z)
+meets s z = above s z && below s z
 
 -- the line problem over strips: z in the first and z• in the second
 abbrev pub solved : Strip → Strip → RootTwo → Bool
-solved s t z = both (meets s z) (meets t (conj z))
+solved s t z = meets s z && meets t (conj z)
 
 -- ---- the shift: I − α₀ and J − α₀•
 abbrev pub shiftOf : Strip → RootTwo → Strip
 shiftOf s w = record { m = s .m; lo = s .lo ⊟ num (s .m) ⊠ w; hi = s .hi ⊟ num (s .m) ⊠ w }
 
 meets-shift : (s : Strip) (w z : RootTwo) → meets s z ≡ meets (shiftOf s w) (z ⊟ w)
-meets-shift s w z = ap₂ both (ap nonneg (low (num (s .m)) z w (s .lo))) (ap nonneg (high (num (s .m)) z w (s .hi)))
+meets-shift s w z = ap₂ _&&_ (ap nonneg (low (num (s .m)) z w (s .lo))) (ap nonneg (high (num (s .m)) z w (s .hi)))
   where
     low : (m z w l : RootTwo) → m ⊠ z ⊟ l ≡ m ⊠ (z ⊟ w) ⊟ (l ⊟ m ⊠ w)
     low m z w l = by-ring ring√ (m ∷ z ∷ w ∷ l ∷ []) (search poly depth 30) refl
@@ -40,7 +40,7 @@ conj-⊟ z w = conj-⊞ z (neg w) ∙ ap (λ t. conj z ⊞ t) (conj-neg w)
 
 -- a pair solves the problem if and only if the pair less α₀ solves the shifted one, for every α₀
 pub shift-holds : (s t : Strip) (α₀ z : RootTwo) → solved s t z ≡ solved (shiftOf s α₀) (shiftOf t (conj α₀)) (z ⊟ α₀)
-shift-holds s t w z = ap₂ both (meets-shift s w z) (meets-shift t (conj w) (conj z) ∙ ap (meets (shiftOf t (conj w))) (sym (conj-⊟ z w)))
+shift-holds s t w z = ap₂ _&&_ (meets-shift s w z) (meets-shift t (conj w) (conj z) ∙ ap (meets (shiftOf t (conj w))) (sym (conj-⊟ z w)))
 
 -- ---- factors with an inverse, both not negative, keep the sign
 pub record Inverse (u v : RootTwo) : Type 0 where
@@ -77,7 +77,7 @@ exchanged s = record { m = s .m; lo = s .hi; hi = s .lo }
 
 module _ (s : Strip) {u v : RootTwo} (e : Inverse u v) (z : RootTwo) where
   pub meets-times : meets s z ≡ meets (timesOf s u) (u ⊠ z)
-  meets-times = ap₂ both (sign-same e _ ∙ ap nonneg (low u (num (s .m)) z (s .lo))) (sign-same e _ ∙ ap nonneg (high u (num (s .m)) z (s .hi)))
+  meets-times = ap₂ _&&_ (sign-same e _ ∙ ap nonneg (low u (num (s .m)) z (s .lo))) (sign-same e _ ∙ ap nonneg (high u (num (s .m)) z (s .hi)))
     where
       low : (u m z l : RootTwo) → u ⊠ (m ⊠ z ⊟ l) ≡ m ⊠ (u ⊠ z) ⊟ u ⊠ l
       low u m z l = by-ring ring√ (u ∷ m ∷ z ∷ l ∷ []) (search poly depth 30) refl
@@ -86,9 +86,9 @@ module _ (s : Strip) {u v : RootTwo} (e : Inverse u v) (z : RootTwo) where
       high u m z l = by-ring ring√ (u ∷ m ∷ z ∷ l ∷ []) (search poly depth 30) refl
 
   meets-turned : meets s z ≡ meets (exchanged (timesOf s (neg u))) (neg u ⊠ z)
-  meets-turned = swap (above s z) (below s z) ∙ ap₂ both (sign-same e _ ∙ ap nonneg (high u (num (s .m)) z (s .hi))) (sign-same e _ ∙ ap nonneg (low u (num (s .m)) z (s .lo)))
+  meets-turned = swap (above s z) (below s z) ∙ ap₂ _&&_ (sign-same e _ ∙ ap nonneg (high u (num (s .m)) z (s .hi))) (sign-same e _ ∙ ap nonneg (low u (num (s .m)) z (s .lo)))
     where
-      swap : (a b : Bool) → both a b ≡ both b a
+      swap : (a b : Bool) → a && b ≡ b && a
       swap true true = refl
       swap true false = refl
       swap false true = refl
@@ -119,10 +119,6 @@ mu = √2 ⊟ num (pos 1)
 abbrev pub λ^ : ℤ → RootTwo
 λ^ (pos k) = power lambda k
 λ^ (negsuc k) = power mu (suc k)
-
-abbrev not : Bool → Bool
-not true = false
-not false = true
 
 abbrev pub evenℕ : ℕ → Bool
 evenℕ zero = true
@@ -176,7 +172,7 @@ module _ {u v : RootTwo} (e : Inverse u v) (turned : conj u ≡ neg v) (s t : St
   conj-power false f = meets-turned t (inverse-sym (power-inverse e k)) (conj z) ∙ ap₂ (λ x y. meets (exchanged (timesOf t x)) y) (sym f) (ap (λ x. x ⊠ conj z) (sym f) ∙ sym (conj-⊠ (power u k) z))
 
   power-holds : solved s t z ≡ solved (timesOf s (power u k)) (conjTimes (evenℕ k) t (conj (power u k))) (power u k ⊠ z)
-  power-holds = ap₂ both (meets-times s (power-inverse e k) z) (conj-power (evenℕ k) (power-conj u v turned k ∙ turn-signed k (power v k)))
+  power-holds = ap₂ _&&_ (meets-times s (power-inverse e k) z) (conj-power (evenℕ k) (power-conj u v turned k ∙ turn-signed k (power v k)))
 
 λ-inverse : Inverse lambda mu
 λ-inverse = record { one = expand √2 ∙ ap (λ x. x ⊟ num (pos 1)) √2-sq ∙ by-ring ring√ [] (search poly depth 30) refl; nn = nn-+ (nn-num (record { le = tt })) nn-√2; inverse-nn = one⊑√2 }

@@ -6,6 +6,7 @@ use gate_words::Part;
 use ring::Point;
 use table_rows::Row;
 
+// Whether the words, or the refusal, are the row's.
 pub fn right(s: &[u8], at: usize, r: Row) -> bool {
     let n = r.numbers;
     let Byte::Fits(k) = arguments::byte_of(n[0]) else {

@@ -5,6 +5,7 @@ use ring::Point;
 use spelling::State;
 use table_rows::Row;
 
+// Whether the tail of the row's matrix is the row's.
 pub fn right(s: &[u8], at: usize, r: Row) -> bool {
     if r.count != 17 {
         return false;

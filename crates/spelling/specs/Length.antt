@@ -6,14 +6,14 @@ use Prim.Native.Nat.{ℕ, zero, suc, _+_, _-_, _*_, _/_, _%_, _^_, _≤_, _<_}
 use native.Mathlib.Nat.{mul-le-mul, pow-suc}
 use native.Mathlib.Omega.{arith}
 use native.Mathlib.Decide.{decLt}
-use lib.IntN.{ℤ, natAbs, _+ℤ_, pos}
+use lib.IntN.{_+ℤ_}
 use lib.ListN.{length, getD}
 use Rattle.ranges.specs.Ranges.{topScale}
 use Rattle.ring.specs.declared.Point.{Point}
 use Rattle.ring.specs.declared.Quotient.{Quotient}
 use Rattle.ring.specs.declared.Quotient.the-variants.{Whole, NotInRing}
 use Rattle.ring.specs.Point.Divide.{divideRoot2, halves}
-use Rattle.spelling.specs.State.{State, Equation, isBare, next, Stage, last, odds, sides, Ready, Narrow}
+use Rattle.spelling.specs.State.{State, Equation, isBare, next, Stage, last, odds, sides, Narrow}
 use Rattle.spelling.specs.Table.{Letter, letter, unpack, tails, index, tail}
 use Rattle.spelling.specs.Word.{syllable, syllables, without-T, front, bareAtZero, spelled, reduced, over, word, body}
 use Rattle.spelling.specs.Least.{Least, reduced-least}

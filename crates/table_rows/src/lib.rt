@@ -23,6 +23,7 @@ pub struct Tally {
 }
 
 impl Tally {
+    // Of no rows.
     pub fn new() -> Tally {
         Tally {
             rows: 0,

@@ -9,6 +9,7 @@ use entry::Place;
 use ring::Point;
 use table_rows::Row;
 
+// Whether the list of the other entries is the row's.
 pub fn right(row: Row, said: Said) -> bool {
     let n = row.numbers;
     if row.before[1] == 5 {

@@ -4,6 +4,7 @@ use arguments::Four;
 use table_rows::Row;
 use table_rows::WIDTH;
 
+// Whether the exponent, and the pulse count if the row has one, are the row's.
 pub fn right(row: Row) -> bool {
     let n = row.numbers;
     if row.count == 6 {

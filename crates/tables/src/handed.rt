@@ -37,6 +37,7 @@ pub fn lent(row: Row, at: usize) -> usize {
     z as usize
 }
 
+// 2n, modulo 2^64.
 pub fn twice(n: usize) -> usize {
     std::num::wrapping_add_usize(n, n)
 }

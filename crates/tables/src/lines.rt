@@ -9,6 +9,7 @@ use line::Interval;
 use line::Place;
 use table_rows::Row;
 
+// Whether the list of the line problem is the row's.
 pub fn right(row: Row, said: Said) -> bool {
     let n = row.numbers;
     if row.before[1] == 6 {

@@ -7,6 +7,7 @@ use operator::Operator;
 use table_rows::Row;
 use table_rows::WIDTH;
 
+// Whether the test of the row's operator comes to the row's number.
 pub fn check_right(row: Row) -> bool {
     let n = row.numbers;
     let Eight::Operator(g) = first_of(n) else {
@@ -34,6 +35,7 @@ fn number(c: Check) -> i64 {
     }
 }
 
+// Whether the image, the determinant and the inverse are the row's.
 pub fn image_right(row: Row) -> bool {
     let n = row.numbers;
     let Eight::Operator(g) = first_of(n) else {

@@ -2,6 +2,7 @@
 use ring::Sign;
 use table_rows::Row;
 
+// Whether the sign of p + q√2 is the row's.
 pub fn right(row: Row) -> bool {
     let n = row.numbers;
     row.count == 3 && number(ring::sign_of(n[0], n[1])) == n[2]

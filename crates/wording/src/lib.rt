@@ -206,6 +206,7 @@ pub fn pair_from(line: &[u8], from: usize) -> Pair
     Pair::Both(p, q)
 }
 
+// The length of a slice to be lent: from 0 to 4096.
 pub fn lent(n: i64) -> Slice
     ensures { λ r. ⌜ r ≡ lentOf n ⌝ }
 {

@@ -1,8 +1,8 @@
 -- The full list of a job with small regions, and that of a matrix entry at a small scale: a test that computes decides whether given points are all of it, in order.
 use mathlib.Core.Path.{_≡_, refl, sym, _∙_, ap, ap₂, subst}
-use mathlib.Core.Bool.{Bool, true, false}
-use mathlib.Core.List.{List, [], _∷_, _++_, List·Memᴰ, List·Memᴰ·head, List·Memᴰ·tail, List·Memᴰ·not-nil, List·Memᴰ·cases-cons}
-use mathlib.Core.Logic.{_⊎_, inl, inr, ⊎-elim}
+use mathlib.Core.Bool.{Bool, true, false, _&&_, _||_}
+use mathlib.Core.List.{List, [], _∷_, List·Memᴰ, List·Memᴰ·head, List·Memᴰ·tail, List·Memᴰ·not-nil, List·Memᴰ·cases-cons}
+use mathlib.Core.Logic.{_⊎_, ⊎-elim}
 use Prim.Native.Nat.{ℕ, zero, suc, _+_, _-_, _≤_, _<_}
 use native.Mathlib.Decide.{decLt}
 use native.Mathlib.Omega.{arith}
@@ -26,30 +26,30 @@ use Rattle.equation.specs.Equation.{completes, topScale}
 use Rattle.equation.specs.Size.{Within, half, solution-within}
 use Rattle.entry.specs.Entry.{full as entries}
 use Rattle.entry.specs.Full.{solution-fits as entry-fits}
-use Rattle.worked.specs.Bounded.{both, both-left, both-right, inBox, Within as Boxed, in-box}
+use Rattle.worked.specs.Bounded.{both-left, both-right, inBox, Within as Boxed, in-box}
 use Rattle.worked.specs.Twins.{listedBy, listed-by}
 
 -- ---- points that are the same
 abbrev pub same : ℤ → ℤ → Bool
-same x y = both (leZ x y) (leZ y x)
+same x y = leZ x y && leZ y x
 
 pub same-is : (x y : ℤ) → T (same x y) → x ≡ y
 same-is x y t = ≼-antisym x y (leZ-yes (both-left (leZ x y) (leZ y x) t)) (leZ-yes (both-right (leZ x y) (leZ y x) t))
 
 abbrev pub samePoint : Point → Point → Bool
-samePoint v w = both (both (same (v .a) (w .a)) (same (v .b) (w .b))) (both (same (v .c) (w .c)) (same (v .d) (w .d)))
+samePoint v w = same (v .a) (w .a) && same (v .b) (w .b) && (same (v .c) (w .c) && same (v .d) (w .d))
 
 pub same-point : (v w : Point) → T (samePoint v w) → v ≡ w
 same-point v w t =
-    let ab = both-left (both (same (v .a) (w .a)) (same (v .b) (w .b))) (both (same (v .c) (w .c)) (same (v .d) (w .d))) t in
-    let cd = both-right (both (same (v .a) (w .a)) (same (v .b) (w .b))) (both (same (v .c) (w .c)) (same (v .d) (w .d))) t in
+    let ab = both-left (same (v .a) (w .a) && same (v .b) (w .b)) (same (v .c) (w .c) && same (v .d) (w .d)) t in
+    let cd = both-right (same (v .a) (w .a) && same (v .b) (w .b)) (same (v .c) (w .c) && same (v .d) (w .d)) t in
     ext (same-is (v .a) (w .a) (both-left (same (v .a) (w .a)) (same (v .b) (w .b)) ab)) (same-is (v .b) (w .b) (both-right (same (v .a) (w .a)) (same (v .b) (w .b)) ab))
     (same-is (v .c) (w .c) (both-left (same (v .c) (w .c)) (same (v .d) (w .d)) cd)) (same-is (v .d) (w .d) (both-right (same (v .c) (w .c)) (same (v .d) (w .d)) cd))
 
 -- ---- every number below n
 abbrev every : ℕ → (ℕ → Bool) → Bool
 every zero f = true
-every (suc n) f = both (f n) (every n f)
+every (suc n) f = f n && every n f
 
 every-is : (n : ℕ) (f : ℕ → Bool) → T (every n f) → (i : ℕ) → i < n → T (f i)
 every-is zero f t i h = absurd (omega arith)
@@ -99,13 +99,9 @@ every-point m f t z w =
     subst (λ v. T (f v)) (ext (a .is) (b .is) (c .is) (d .is)) td
 
 -- ---- the test
-abbrev either : Bool → Bool → Bool
-either true b = true
-either false b = b
-
 abbrev member : Point → List Point → Bool
 member v [] = false
-member v (p ∷ ps) = either (samePoint v p) (member v ps)
+member v (p ∷ ps) = samePoint v p || member v ps
 
 abbrev unless : Bool → Bool → Bool
 unless true b = b
@@ -113,11 +109,11 @@ unless false b = true
 
 abbrev allPass : (Point → Bool) → List Point → Bool
 allPass f [] = true
-allPass f (p ∷ ps) = both (f p) (allPass f ps)
+allPass f (p ∷ ps) = f p && allPass f ps
 
 abbrev rising : ℕ → List ℕ → Bool
 rising lo [] = true
-rising lo (q ∷ l) = both (leb lo q) (rising (suc q) l)
+rising lo (q ∷ l) = leb lo q && rising (suc q) l
 
 abbrev pub ranksOf : List Point → List ℕ
 ranksOf [] = []
@@ -129,15 +125,15 @@ numbers (p ∷ ps) = p .a ∷ p .b ∷ p .c ∷ p .d ∷ numbers ps
 
 -- each point within ±m that passes is given; those given pass, and their ranks rise
 abbrev wholeBy : (Point → Bool) → ℕ → List Point → Bool
-wholeBy f m ps = both (everyPoint m (λ v. unless (f v) (member v ps))) (both (allPass f ps) (rising 0 (ranksOf ps)))
+wholeBy f m ps = everyPoint m (λ v. unless (f v) (member v ps)) && (allPass f ps && rising 0 (ranksOf ps))
 
 -- of a job, all of whose solutions lie within ±m
 abbrev pub wholeList : Job → ℕ → List Point → Bool
-wholeList j m ps = both (inBox j m) (wholeBy (listedBy j) m ps)
+wholeList j m ps = inBox j m && wholeBy (listedBy j) m ps
 
 -- of a matrix entry, where they lie within ±2^⌈k/2⌉
 abbrev pub wholeEntry : ℕ → Point → List Point → Bool
-wholeEntry k v ps = both (leb k topScale) (wholeBy (completes k v) (half k) ps)
+wholeEntry k v ps = leb k topScale && wholeBy (completes k v) (half k) ps
 
 -- ---- the law
 T-of : (b : Bool) → b ≡ true → T b
@@ -160,7 +156,7 @@ member-mem : (v : Point) (ps : List Point) → T (member v ps) → List·Memᴰ 
 member-mem v [] t = absurd t
 member-mem v (p ∷ ps) t = go (samePoint v p) refl t (member-mem v ps)
   where
-    go : (b : Bool) → samePoint v p ≡ b → T (either b (member v ps)) → (T (member v ps) → List·Memᴰ (rankOf v) (ranksOf ps)) → List·Memᴰ (rankOf v) (ranksOf (p ∷ ps))
+    go : (b : Bool) → samePoint v p ≡ b → T (b || member v ps) → (T (member v ps) → List·Memᴰ (rankOf v) (ranksOf ps)) → List·Memᴰ (rankOf v) (ranksOf (p ∷ ps))
     go true e t more = List·Memᴰ·head (ap rankOf (same-point v p (T-of _ e)))
     go false e t more = List·Memᴰ·tail (more t)
 
@@ -184,11 +180,11 @@ module _ (t f : Point → Bool) (is : (v : Point) → t v ≡ f v) (fits : (v : 
   whole-by : (m : ℕ) → ((v : Point) → t v ≡ true → Within m v) → (ps : List Point) → T (wholeBy f m ps) → flat numbersOf (passing t 0) ≡ numbers ps
   whole-by m bounded ps i =
       let every = everyPoint m (λ v. unless (f v) (member v ps)) in
-      let q = both-right every (both (allPass f ps) (rising 0 (ranksOf ps))) i in
+      let q = both-right every (allPass f ps && rising 0 (ranksOf ps)) i in
       let pass = both-left (allPass f ps) (rising 0 (ranksOf ps)) q in
       let there : (v : Point) → t v ≡ true → Listed (ranksOf ps) v =
       λ v e.
-      let k = unless-is (f v) (member v ps) (every-point m (λ v. unless (f v) (member v ps)) (both-left every (both (allPass f ps) (rising 0 (ranksOf ps))) i) v (bounded v e)) (sym (is v) ∙ e) in
+      let k = unless-is (f v) (member v ps) (every-point m (λ v. unless (f v) (member v ps)) (both-left every (allPass f ps && rising 0 (ranksOf ps)) i) v (bounded v e)) (sym (is v) ∙ e) in
       record { at = rankOf v; held = member-mem v ps k; point = point-rank v (fits v e) } in
       let all-is = all-unique t fits (ranksOf ps) (rising-is 0 (ranksOf ps) (both-right (allPass f ps) (rising 0 (ranksOf ps)) q))
       (λ v. (there v, (λ h. subst (λ w. t w ≡ true) (h .point) (mem-passes ps pass (h .at) (h .held))))) in

@@ -1,7 +1,7 @@
 -- The starred points of SPEC, "Worked points", and the counts of "Other entry": one table, one test that computes over its rows, and one law that turns the test into
 -- each row's claim. A claim is in the terms of the definitions that the contracts cite.
 use mathlib.Core.Path.{_≡_, refl, _∙_, ap}
-use mathlib.Core.Bool.{Bool, true, false}
+use mathlib.Core.Bool.{Bool, true, false, _&&_}
 use mathlib.Core.List.{List, [], _∷_}
 use Prim.Native.Nat.{ℕ, _*_}
 use lib.Dec.{T, eqb, eqb→eq}
@@ -73,13 +73,13 @@ abbrev sameList : List ℤ → List ℤ → Bool
 sameList [] [] = true
 sameList [] (y ∷ l) = false
 sameList (x ∷ k) [] = false
-sameList (x ∷ k) (y ∷ l) = both (same x y) (sameList k l)
+sameList (x ∷ k) (y ∷ l) = same x y && sameList k l
 
 abbrev right : Row → Bool
 right (sign p q s) = same (number (bySigns (nonNeg p) (nonNeg q) (natAbs p * natAbs p) (2 * (natAbs q * natAbs q)))) s
 right (operator g n) = eqb (refusal (checkOf g)) n
 right (image g v w) = samePoint (imageOf g v) w
-right (line h l) = both (example.boxed h) (sameList (example.listing h) l)
+right (line h l) = example.boxed h && sameList (example.listing h) l
 right (job j m ps) = wholeList j m ps
 right (entry k v ps) = wholeEntry k v ps
 right (exponent k v e) = eqb (exponentBy k v) e
@@ -87,7 +87,7 @@ right (asked j g w b) = sameBool (isImageBy j g w) b
 
 abbrev every : List Row → Bool
 every [] = true
-every (r ∷ rs) = both (right r) (every rs)
+every (r ∷ rs) = right r && every rs
 
 -- ---- the law
 same-bool : (a b : Bool) → T (sameBool a b) → a ≡ b

@@ -1,6 +1,6 @@
 -- Tests that compute, equal to definitions that are shut: the exponent, whether a job lists a point, and the image question.
 use mathlib.Core.Path.{_≡_, refl, sym, _∙_, ap, ap₂}
-use mathlib.Core.Bool.{Bool, false, _&&_, _||_}
+use mathlib.Core.Bool.{Bool, false, _&&_, _||_, cond}
 use Prim.Native.Nat.{ℕ, zero, suc, _-_}
 use native.Mathlib.Omega.{arith}
 use lib.Dec.{eqb}
@@ -9,7 +9,7 @@ use Rattle.integers.specs.Parity.{even}
 use Rattle.ring.specs.declared.Point.{Point}
 use Rattle.ring.specs.declared.Quotient.{Quotient}
 use Rattle.ring.specs.declared.Quotient.the-variants.{Whole, NotInRing}
-use Rattle.ring.specs.Point.Divide.{both, pick, halves, divideRoot2, divide-is}
+use Rattle.ring.specs.Point.Divide.{halves, divideRoot2, divide-is}
 use Rattle.ring.specs.Point.Exponent.{next, exponentOf, exponent-zero, exponent-whole, exponent-not}
 use Rattle.region.specs.declared.Job.{Job}
 use Rattle.region.specs.Parts.{solvesParts, solves-is}
@@ -23,11 +23,11 @@ use Rattle.stages.specs.World.{undone, isImage}
 
 abbrev pub exponentBy : ℕ → Point → ℕ
 exponentBy zero v = 0
-exponentBy (suc k) v = next (suc k) (exponentBy k) (pick (both (even (v .a -ℤ v .c)) (even (v .b -ℤ v .d))) (Whole (halves v)) NotInRing)
+exponentBy (suc k) v = next (suc k) (exponentBy k) (cond (even (v .a -ℤ v .c) && even (v .b -ℤ v .d)) (Whole (halves v)) NotInRing)
 
 pub exponent-by : (k : ℕ) (v : Point) → exponentOf k v ≡ exponentBy k v
 exponent-by zero v = exponent-zero v
-exponent-by (suc k) v = go (pick (both (even (v .a -ℤ v .c)) (even (v .b -ℤ v .d))) (Whole (halves v)) NotInRing) (divide-is v) (exponent-by k)
+exponent-by (suc k) v = go (cond (even (v .a -ℤ v .c) && even (v .b -ℤ v .d)) (Whole (halves v)) NotInRing) (divide-is v) (exponent-by k)
   where
     go : (q : Quotient) → divideRoot2 v ≡ q → ((z : Point) → exponentOf k z ≡ exponentBy k z) → exponentOf (suc k) v ≡ next (suc k) (exponentBy k) q
     go (Whole z) e less =

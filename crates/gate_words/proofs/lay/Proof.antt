@@ -1,10 +1,10 @@
 use mathlib.Core.Path.{_≡_, sym, _∙_, ap}
+use mathlib.Core.Bool.{cond}
 use mathlib.Core.List.{_++_}
 use Prim.Native.Nat.{_≤_}
 use native.Mathlib.Omega.{arith}
 use lib.ListN.{length, drop}
 use lib.Seq.{length-take-le, take-length}
-use Rattle.spelling.specs.Bits.{pick}
 use Rattle.gates.specs.Written.{written}
 use Rattle.gate_words.specs.Words.{laid}
 use borrow.Author.Needs.{needs}
@@ -32,7 +32,7 @@ returns : tie.Need-returns
 returns c =
     let s = c .before .before .before .before .before .before in
     let a = s .before .before .args in
-    c .before .before .copy .ensures .1 ∙ ap (λ l. l ++ drop (length (written (a .w))) (a .out .now)) (take-length (written (a .w))) ∙ ap (λ b. pick b (laid (written (a .w)) (a .out .now)) (a .out .now)) (sym (s .if1 .taken))
+    c .before .before .copy .ensures .1 ∙ ap (λ l. l ++ drop (length (written (a .w))) (a .out .now)) (take-length (written (a .w))) ∙ ap (λ b. cond b (laid (written (a .w)) (a .out .now)) (a .out .now)) (sym (s .if1 .taken))
 
 returns-2 : tie.Need-returns-2
 returns-2 c = search needs

@@ -2,6 +2,7 @@
 -- All that the proof knows of the two is that each meets its contract.
 -- Assumes nothing.
 use mathlib.Core.Path.{_≡_, refl, ap, _∙_}
+use mathlib.Core.Bool.{cond}
 use Prim.Native.Nat.{ℕ, _<_, _^_}
 use mathlib.Core.List.{[], _∷_, List}
 use lib.ListN.{length, take}
@@ -44,7 +45,6 @@ use denote.Exit.{Last}
 use Rattle.ring.specs.declared.Point.{Point}
 use Rattle.ring.proofs.Point as P
 use Rattle.ring.proofs.Point.Laws as P′
-use Rattle.spelling.specs.Bits.{pick as choose}
 use Rattle.gate_words.specs.Words.{Hands, firstAfter, secondAfter}
 use Rattle.gate_words.specs.Laws.{part-is}
 use Rattle.gate_words.specs.declared.Part.{Part}
@@ -151,7 +151,7 @@ module _ {M : Type 1} (𝓤 : URA M) (H : Heap 𝓤) (A : Atoms 𝓤) (W : Given
   to-chosen ε₁ ε₂ s′ t′ r = (((κ, tt), (q, tt), tt, (r, (x₁ ε₁ s′, (x₂ ε₂ t′, tt))), (LL.val S.the-type S′.the-laws r ∷ [], (v₁ ∷ [], (v₂ ∷ [], tt)))), tt)
 
   abbrev Picks : Part → RefT (List ℕ) → List ℕ → List ℕ → Type 0
-  Picks r p s′ t′ = (p .now ≡ take (r .len) (choose (r .second) t′ s′)) × (p .ptr ≡ choose (r .second) (b₂, o₂) (b₁, o₁))
+  Picks r p s′ t′ = (p .now ≡ take (r .len) (cond (r .second) t′ s′)) × (p .ptr ≡ cond (r .second) (b₂, o₂) (b₁, o₁))
 
   module _ (ε₁ ε₂ : GName) (s′ t′ : List ℕ) (r : Part) where
     goes : ent 𝓤 (⋆ 𝓤 H A (Shared s′ t′ (ε₁, ε₂) ∷ ‵ (S.the-row .own r (LL.val S.the-type S′.the-laws r ∷ [])) ∷ [])) (sep 𝓤 (Chosen 𝓤 H A mem run .pre (to-chosen ε₁ ε₂ s′ t′ r)) (sep 𝓤 (sem 𝓤 H A (finally u8 γ₁ s′)) (sem 𝓤 H A (finally u8 γ₂ t′))))

@@ -1,5 +1,4 @@
 -- `put_end` meets its contract. Assumes nothing.
-use mathlib.Core.Path.{sym}
 use borrow.Author.Needs.{needs}
 use Rattle.list_lines.proofs.put_end.Statement.{statement}
 use Rattle.list_lines.proofs.put_end.Tie as tie

@@ -1,5 +1,4 @@
 -- `put_refusal` meets its contract. Assumes nothing.
-use mathlib.Core.Path.{sym}
 use borrow.Author.Needs.{needs}
 use Rattle.list_lines.proofs.put_refusal.Statement.{statement}
 use Rattle.list_lines.proofs.put_refusal.Tie as tie

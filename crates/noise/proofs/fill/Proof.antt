@@ -1,7 +1,6 @@
 -- `fill` is safe and ends. The invariant: the slice keeps its length. Assumes nothing.
 use Prim.Native.Nat.{_-_}
 use mathlib.Core.Path.{_≡_}
-use native.Mathlib.Omega.{arith}
 use lib.ListN.{length}
 use borrow.Author.Needs.{needs}
 use Rattle.noise.proofs.fill.Statement.{statement}

@@ -1,5 +1,4 @@
 -- `print_from` ends: each piece leaves fewer to come. The invariant: the slice keeps its length. Assumes nothing.
-use Prim.Native.Nat.{ℕ, _≤_, _<_}
 use mathlib.Core.Path.{_≡_, refl, sym, _∙_}
 use mathlib.Core.Bool.{Bool, true, false, not}
 use native.Mathlib.Omega.{arith}

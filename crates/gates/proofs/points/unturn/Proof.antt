@@ -1,7 +1,7 @@
 use mathlib.Core.Path.{sym, _∙_, ap}
+use mathlib.Core.Bool.{cond}
 use native.Mathlib.Omega.{arith}
 use lib.IntN.{natAbs}
-use Rattle.spelling.specs.Bits.{pick}
 use Rattle.spelling.specs.Points.{back}
 use borrow.Author.Needs.{needs}
 use Rattle.gates.proofs.points.unturn.Statement.{statement}
@@ -17,7 +17,7 @@ returns : tie.Need-returns
 returns c = search needs
 
 returns-2 : tie.Need-returns-2
-returns-2 c = c .over-omega2 .ensures ∙ ap back (c .before .over-omega .ensures) ∙ sym (ap (λ b. pick b (c .before .before .before .args .t) (back (back (c .before .before .before .args .t)))) (c .before .before .if1 .left))
+returns-2 c = c .over-omega2 .ensures ∙ ap back (c .before .over-omega .ensures) ∙ sym (ap (λ b. cond b (c .before .before .before .args .t) (back (back (c .before .before .before .args .t)))) (c .before .before .if1 .left))
 
 pub unturn-spec : {M : Type 1} → statement M
 unturn-spec = tie.close (tie.spec over-omega-requires over-omega-requires-2 returns returns-2)

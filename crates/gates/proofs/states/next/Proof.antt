@@ -1,10 +1,11 @@
 use mathlib.Core.Path.{_≡_, refl, sym, _∙_, ap, ap₂, subst}
+use mathlib.Core.Bool.{cond}
 use Prim.Native.Nat.{_+_, _^_, _<_}
 use native.Mathlib.Omega.{arith}
 use lib.IntN.{natAbs}
 use Rattle.ring.specs.Point.{_+ω_, _-ω_}
 use Rattle.ring.specs.Point.Divide.{halves}
-use Rattle.spelling.specs.Bits.{pick, none, bare}
+use Rattle.spelling.specs.Bits.{none, bare}
 use Rattle.spelling.specs.Points.{back, halved}
 use Rattle.spelling.specs.Parities.{parities}
 use Rattle.spelling.specs.declared.State.{State}
@@ -35,7 +36,7 @@ bare-is : (c : tie.After-unturn) → c .before .bare .result ≡ isBare (self c)
 bare-is c = c .before .bare .ensures ∙ ap₂ bare (c .before .before .before .parities .ensures) (c .before .before .parities2 .ensures)
 
 z-is : (c : tie.After-unturn) → c .unturn .result ≡ unturn (self c)
-z-is c = c .unturn .ensures ∙ ap (λ b. pick b (self c .t) (back (back (self c .t)))) (bare-is c)
+z-is c = c .unturn .ensures ∙ ap (λ b. cond b (self c .t) (back (back (self c .t)))) (bare-is c)
 
 narrow-z : (c : tie.After-unturn) → Narrow (c .unturn .result)
 narrow-z c = subst Narrow (sym (z-is c)) (narrow-unturn (isBare (self c)) (self c .t) (c .before .before .before .before .before .before .pre .1))
@@ -47,7 +48,7 @@ q-is : (c : tie.After-less) → c .less .result ≡ less (self (c .before .befor
 q-is c = c .less .ensures ∙ ap (λ z. self (c .before .before) .u -ω z) (z-is (c .before .before))
 
 l-is : (c : tie.After-shift) → c .shift .result ≡ shift (self (c .before .before .before))
-l-is c = c .shift .ensures ∙ ap (λ b. pick b 3 1) (bare-is (c .before .before .before))
+l-is c = c .shift .ensures ∙ ap (λ b. cond b 3 1) (bare-is (c .before .before .before))
 
 none-is : (c : tie.After-none) → c .none .result ≡ none (parities (plus (self (c .before .before .before .before .before .before))))
 none-is c = c .none .ensures ∙ ap none (c .before .parities3 .ensures ∙ ap parities (p-is (c .before .before .before .before .before)))

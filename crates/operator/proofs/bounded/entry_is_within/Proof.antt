@@ -1,11 +1,11 @@
 use mathlib.Core.Path.{_∙_, ap, ap₂}
+use mathlib.Core.Bool.{_&&_}
 use Prim.Native.Nat.{ℕ, _^_}
 use lib.Dec.{leb}
 use lib.IntN.{natAbs}
 use mir.Syntax.{w64}
 use mir.Val.{SFits}
 use mir.Facts.{toZ-ofZ}
-use Rattle.operator.specs.Operator.{both}
 use borrow.Author.Needs.{needs}
 use Rattle.operator.proofs.bounded.entry_is_within.Statement.{statement}
 use Rattle.operator.proofs.bounded.entry_is_within.Tie as tie
@@ -25,7 +25,7 @@ returns c =
     let p : SFits w64 (s .args .e .p) = search needs in
     let q : SFits w64 (s .args .e .q) = search needs in
     c .both .ensures
-    ∙ ap₂ (λ (m n : ℕ). both (leb m (2 ^ 30)) (leb n (2 ^ 30))) (c .before .before .before .abs .ensures ∙ ap natAbs (toZ-ofZ p)) (c .before .abs2 .ensures ∙ ap natAbs (toZ-ofZ q))
+    ∙ ap₂ (λ (m n : ℕ). leb m (2 ^ 30) && leb n (2 ^ 30)) (c .before .before .before .abs .ensures ∙ ap natAbs (toZ-ofZ p)) (c .before .abs2 .ensures ∙ ap natAbs (toZ-ofZ q))
 
 pub entry-is-within-spec : {M : Type 1} → statement M
 entry-is-within-spec = tie.close (tie.spec abs-requires abs-requires-2 both-requires returns)

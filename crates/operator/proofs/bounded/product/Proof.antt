@@ -1,5 +1,5 @@
 use mathlib.Core.Path.{_≡_, refl, sym, ap₂, _∙_}
-use Rattle.operator.specs.Operator.{both}
+use mathlib.Core.Bool.{_&&_}
 use Rattle.operator.specs.Matrix.{isWithin, productWithin}
 use Rattle.operator.specs.Accepted.{both-true}
 use Rattle.operator.specs.Within.{within-bounded}
@@ -8,8 +8,8 @@ use Rattle.operator.proofs.bounded.product.Statement.{statement}
 use Rattle.operator.proofs.bounded.product.Tie as tie
 
 -- what the test of both says
-tested : (c : tie.After-both) → let a = c .before .before .before .args in c .both .result ≡ both (isWithin (a .m)) (isWithin (a .n))
-tested c = c .both .ensures ∙ ap₂ both (c .before .before .is-within .ensures) (c .before .is-within2 .ensures)
+tested : (c : tie.After-both) → let a = c .before .before .before .args in c .both .result ≡ isWithin (a .m) && isWithin (a .n)
+tested c = c .both .ensures ∙ ap₂ _&&_ (c .before .before .is-within .ensures) (c .before .is-within2 .ensures)
 
 is-within-requires : tie.Need-is-within-requires
 is-within-requires c κs = search needs

@@ -1,9 +1,9 @@
 use mathlib.Core.Path.{_≡_, sym, _∙_, ap}
+use mathlib.Core.Bool.{cond}
 use lib.Signed.{nonNeg}
 use mir.Facts.{toZ-ofZ}
 use borrow.Author.Needs.{needs}
 use Rattle.ring.specs.declared.Sign.the-variants.{Minus, Plus}
-use Rattle.ring.specs.Sign.{pick}
 use Rattle.ring.proofs.signs.sign_of_part.Statement.{statement}
 use Rattle.ring.proofs.signs.sign_of_part.Tie as tie
 
@@ -15,10 +15,10 @@ sign : (c : tie.After-is-nonneg) → c .is-nonneg .result ≡ nonNeg (c .before 
 sign c = c .is-nonneg .ensures ∙ ap nonNeg (toZ-ofZ (c .before .fits .z))
 
 returns : tie.Need-returns
-returns c = sym (ap (λ b. pick b Plus Minus) (sym (sign (c .before)) ∙ c .if1 .taken))
+returns c = sym (ap (λ b. cond b Plus Minus) (sym (sign (c .before)) ∙ c .if1 .taken))
 
 returns-2 : tie.Need-returns-2
-returns-2 c = sym (ap (λ b. pick b Plus Minus) (sym (sign (c .before)) ∙ c .if1 .left))
+returns-2 c = sym (ap (λ b. cond b Plus Minus) (sym (sign (c .before)) ∙ c .if1 .left))
 
 pub sign-of-part-spec : {M : Type 1} → statement M
 sign-of-part-spec = tie.close (tie.spec is-nonneg-requires returns returns-2)

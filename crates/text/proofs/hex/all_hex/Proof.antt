@@ -1,9 +1,9 @@
 -- `all_hex` meets its contract. The invariant: what holds of the rest holds of all. Assumes nothing.
-use Prim.Native.Nat.{_-_, _≤_, _<_}
+use Prim.Native.Nat.{_-_}
 use mathlib.Core.Path.{_≡_, refl, sym, _∙_}
 use native.Mathlib.Omega.{arith}
 use borrow.Author.Needs.{needs}
-use lib.ListN.{length, getD, drop}
+use lib.ListN.{length, drop}
 use Rattle.text.specs.Hex.{allHex}
 use Rattle.text.proofs.Hexadecimal.{all-end, all-not, all-more}
 use Rattle.text.proofs.hex.all_hex.Statement.{statement}

@@ -1,6 +1,6 @@
 -- `spell` meets its contract. The invariant: the digits of what is left, and those that stand in place, are all digits. Assumes nothing.
 use Prim.Native.Nat.{_≤_, _<_, _^_}
-use mathlib.Core.Path.{_≡_, refl, sym, ap, _∙_}
+use mathlib.Core.Path.{_≡_, sym, _∙_}
 use mathlib.Core.List.{_++_}
 use native.Mathlib.Nat.{le-of-eq}
 use native.Mathlib.Omega.{arith}
