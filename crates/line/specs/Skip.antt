@@ -9,7 +9,6 @@ use Rattle.integers.specs.Size.{size--, size-*≤}
 use Rattle.ring.specs.declared.RootTwo.{RootTwo}
 use Rattle.ring.specs.RootTwo.{conj, conj-parts}
 use Rattle.ring.specs.RootTwo.Sized.{conj-size, less-size, product-size}
-use Rattle.ring.specs.Short.{both}
 use Rattle.rows.specs.declared.Strip.{Strip}
 use Rattle.rows.specs.Row.{at, above, below, coordinate-mono}
 use Rattle.rows.specs.Both.{is-false, both-true, both-of}

@@ -1,6 +1,6 @@
 -- The walk through the scaled pairs, by a' and then b': it passes over no pair with a from a given one on, and the first that it meets has the least such a.
 use mathlib.Core.Path.{_≡_, sym, _∙_, ap, subst}
-use mathlib.Core.Bool.{true, false, false≢true}
+use mathlib.Core.Bool.{true, false, false≢true, _&&_}
 use mathlib.Core.Logic.{inl, inr}
 use Prim.Native.Nat.{ℕ, _+_, _-_, _^_, _≤_, _<_, zero-le}
 use native.Mathlib.Decide.{decLt}
@@ -11,7 +11,6 @@ use Rattle.integers.specs.Difference.{by⊖, zz, _≼_, _≺_}
 use Rattle.integers.specs.Order.{≼-trans, ≺→≼, ≺-irrefl}
 use Rattle.ring.specs.declared.RootTwo.{RootTwo}
 use Rattle.ring.specs.RootTwo.{conj, ext}
-use Rattle.ring.specs.Short.{both}
 use Rattle.rows.specs.declared.Strip.{Strip}
 use Rattle.rows.specs.Row.{at, coordinate, coordinate-mono, above, below, below-anti, whole-⊑, lower, upper, Near, First, Digit, digit-of}
 use Rattle.rows.specs.Row as Row

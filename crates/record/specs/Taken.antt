@@ -29,7 +29,7 @@ use Rattle.record.specs.declared.Reading.{Reading}
 use Rattle.record.specs.declared.Reading.the-variants.{Accepted, Refused}
 use Rattle.fields.specs.Field.{unsignedAt}
 use Rattle.kinds.specs.Kinds.{bodyLength, isKnown, inTurn, admissionOf, kindOf, whole-long}
-use Rattle.record.specs.Record.{pick, bodyOf, scaleOf, selectionOf, rectangleOf, ellipseOf, sliceOf, operatorOf, regionReading, operatorReading, admitted, kindReading, readingOf}
+use Rattle.record.specs.Record.{bodyOf, scaleOf, selectionOf, rectangleOf, ellipseOf, sliceOf, operatorOf, regionReading, operatorReading, admitted, kindReading, readingOf}
 
 module _ (x : Record) (n : ℕ) where
   never : {P : Type 0} (f : Refusal) → Refused f ≡ Accepted x n → P

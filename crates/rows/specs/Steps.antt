@@ -10,7 +10,6 @@ use Rattle.ring.specs.declared.RootTwo.{RootTwo}
 use Rattle.ring.specs.RootTwo.{_⊞_, _⊟_, _⊠_, neg, conj, num, √2, lambda, ring√, parts, num-parts, product-parts, √2-sq, conj-⊞, conj-⊠, conj-neg, conj-num, conj-√2}
 use Rattle.ring.specs.RootTwo.Order.{nonneg, Nn, nn-by, nn-+, nn-*, nn-num, nn-√2, one⊑√2}
 use Rattle.ring.specs.RootTwo.Power.{turn, turn-zero, turn-suc, turn-num}
-use Rattle.ring.specs.Short.{both}
 use Rattle.rows.specs.declared.Strip.{Strip}
 use Rattle.rows.specs.Row.{at, above, below}
 

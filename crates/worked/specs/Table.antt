@@ -30,7 +30,7 @@ use Rattle.operator.specs.Operator as op
 use Rattle.operator.specs.Operator.{identity, refusal, checkOf, evenParity, special, detWhole, detRoot, imageOf}
 use Rattle.operator.specs.Inverse.{adjugate, times, inverseOf}
 use Rattle.stages.specs.World.{isImage}
-use Rattle.worked.specs.Bounded.{both, both-left, both-right}
+use Rattle.worked.specs.Bounded.{both-left, both-right}
 use Rattle.worked.specs.Listed.{same, same-is, samePoint, same-point, numbers, wholeList, whole-list, wholeEntry, whole-entry}
 use Rattle.worked.specs.Twins.{exponentBy, exponent-by, isImageBy, image-by}
 
