@@ -1,11 +1,11 @@
 -- Two's complement by one subtraction in a wider word v, cast to the word w: one law for every width. Assumes nothing.
 use mathlib.Core.Path.{_≡_, sym, _∙_}
-use Prim.Native.Nat.{ℕ, suc, _+_, _-_, _^_, _<_, _≤_}
+use Prim.Native.Nat.{ℕ, _+_, _-_, _^_, _<_, _≤_}
 use native.Mathlib.Omega.{arith}
 use lib.IntN.{ℤ, pos, negsuc, negℤ, _-ℤ_}
 use lib.Signed.{mag}
 use mir.Syntax.{Width}
-use mir.Val.{SFits, bits, hbits, toZ, ofZ}
+use mir.Val.{SFits, hbits, toZ, ofZ}
 use mir.Facts.{toZ-ofZ, toZ-pos}
 use Rattle.integers.specs.Difference.{up, dn, +-spec, neg-up, neg-dn}
 use Rattle.fields.specs.Field.{twos, less, twos-low, twos-high}

@@ -1,6 +1,6 @@
 // Fields of a record, little-endian, in bytes that the caller knows to be there.
 ghost use mathlib.Core.Path.{_≡_};
-ghost use Prim.Native.Nat.{_+_, _^_, _<_, _≤_};
+ghost use Prim.Native.Nat.{_+_, _<_, _≤_};
 ghost use lib.ListN.{length};
 ghost use Rattle.fields.specs.Field.{unsignedAt, twos, signedAt};
 

@@ -19,7 +19,7 @@ use Rattle.list_lines.specs.Lines.{linesOf, endLine}
 use Rattle.listing.specs.Page.{pageOf, roomIn}
 use Rattle.output.specs.declared.Output.{Output}
 use Rattle.output.specs.Output.{outputFor, outputOf}
-use Rattle.output.specs.Pieces.{State, long, refusal, list, last, done, isDone, stateOf, begin, partOf, pieceOf, Filled, Printed, finished, piece, most, restOf}
+use Rattle.output.specs.Pieces.{State, long, refusal, list, last, done, isDone, stateOf, begin, partOf, pieceOf, Printed, finished, piece, most, restOf}
 use Rattle.output.specs.Pages.{kept-same, Small, Goes, page-goes, page-less}
 use Rattle.output.specs.Ready.{Begun, load-begun}
 

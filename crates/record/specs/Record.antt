@@ -1,8 +1,8 @@
 -- One reading: SPEC, "Records" and "Refusals". It takes one record from the front of the bytes, or refuses it.
 use mathlib.Core.Path.{_≡_, refl, ap}
-use mathlib.Core.Bool.{Bool, true, false, cond}
+use mathlib.Core.Bool.{true, false, cond}
 use mathlib.Core.List.{List, [], _∷_}
-use Prim.Native.Nat.{ℕ, _-_, _<_, _≤_}
+use Prim.Native.Nat.{ℕ, _-_}
 use native.Mathlib.Omega.{arith}
 use lib.Dec.{eqb, leb, ltb}
 use lib.ListN.{length, drop, getD, length-drop}
@@ -23,9 +23,7 @@ use Rattle.kinds.specs.declared.Kind.{Kind}
 use Rattle.kinds.specs.declared.Kind.the-variants as K
 use Rattle.kinds.specs.declared.Turn.{Turn}
 use Rattle.kinds.specs.declared.Turn.the-variants as T
-use Rattle.record.specs.declared.Record.{Record}
 use Rattle.record.specs.declared.Record.the-variants as Rec
-use Rattle.kinds.specs.declared.Refusal.{Refusal}
 use Rattle.kinds.specs.declared.Refusal.the-variants.{NoKind, UnknownKind, OutOfRange, NotPositive, OddParity, NotSpecial, NoDirection}
 use Rattle.kinds.specs.declared.Admission.{Admission}
 use Rattle.kinds.specs.declared.Admission.the-variants as A

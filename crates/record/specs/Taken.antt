@@ -1,5 +1,5 @@
 -- An accepted reading takes its kind byte and its body: one byte at least, and no more than there are.
-use mathlib.Core.Path.{_≡_, refl, sym, _∙_}
+use mathlib.Core.Path.{_≡_, refl}
 use mathlib.Core.Bool.{Bool, true, false, cond}
 use mathlib.Core.List.{List, [], _∷_}
 use Prim.Native.Nat.{ℕ, suc, _≤_}
@@ -29,7 +29,7 @@ use Rattle.record.specs.declared.Reading.{Reading}
 use Rattle.record.specs.declared.Reading.the-variants.{Accepted, Refused}
 use Rattle.fields.specs.Field.{unsignedAt}
 use Rattle.kinds.specs.Kinds.{bodyLength, isKnown, inTurn, admissionOf, kindOf, whole-long}
-use Rattle.record.specs.Record.{bodyOf, scaleOf, selectionOf, rectangleOf, ellipseOf, sliceOf, operatorOf, regionReading, operatorReading, admitted, kindReading, readingOf}
+use Rattle.record.specs.Record.{bodyOf, scaleOf, selectionOf, rectangleOf, ellipseOf, sliceOf, operatorOf, regionReading, operatorReading, admitted, readingOf}
 
 module _ (x : Record) (n : ℕ) where
   never : {P : Type 0} (f : Refusal) → Refused f ≡ Accepted x n → P

@@ -1,7 +1,6 @@
 // Job records: SPEC, "Records". One reading takes one record from the front of the bytes given, or refuses it.
 ghost use mathlib.Core.Path.{_≡_};
-ghost use mathlib.Core.Bool.{Bool, true, false};
-ghost use Prim.Native.Nat.{_≤_, _<_};
+ghost use Prim.Native.Nat.{_≤_};
 ghost use lib.ListN.{length};
 ghost use Rattle.region.specs.Region.{checkOf as regionCheck};
 ghost use Rattle.operator.specs.Operator.{checkOf as operatorCheck};

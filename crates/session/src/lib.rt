@@ -85,7 +85,7 @@ pub fn has_image(s: Session, w: Point) -> Answer
     let g = s.stage;
     match g {
         Stage::Early(_) => Answer::Refused(Refusal::NoJob),
-        Stage::Walking(c) => Answer::Says(image::is_image(c.job, c.operator, w)),
+        Stage::Walking(c) => Answer::Says(images::is_image(c.job, c.operator, w)),
     }
 }
 

@@ -13,8 +13,8 @@ use Rattle.stages.specs.Session.{meaning, answerOf, outcome}
 use Rattle.text.specs.Append.{Appended}
 use Rattle.listing.specs.declared.page.Page.{Page}
 use Rattle.list_lines.specs.Lines.{linesOf}
-use Rattle.listing.specs.Page.{pageOf, Paged, scaleOf}
-use Rattle.listing.specs.Given.{isHanded, Handing, page-handed, Nothing, page-nothing}
+use Rattle.listing.specs.Page.{pageOf, Paged}
+use Rattle.listing.specs.Given.{isHanded, Handing, page-handed, page-nothing}
 use borrow.Author.Needs.{needs}
 use Rattle.listing.proofs.page.filled.Statement.{statement}
 use Rattle.listing.proofs.page.filled.Tie as tie

@@ -1,10 +1,7 @@
 -- `page` meets its contract. Assumes nothing.
 use Prim.Native.Nat.{ℕ, _+_}
-use mathlib.Core.Path.{_≡_, sym, ap, ap₂, _∙_}
-use lib.ListN.{length}
-use Rattle.stages.specs.Session.{meaning}
-use Rattle.words.specs.Meaning.{sizeOf, wrapped}
-use Rattle.listing.specs.Page.{pageOf, roomIn}
+use mathlib.Core.Path.{sym, ap, ap₂, _∙_}
+use Rattle.words.specs.Meaning.{sizeOf}
 use Rattle.output.specs.Pieces.{list, last, kept}
 use borrow.Author.Needs.{needs}
 use Rattle.output.proofs.fill.page.Statement.{statement}

@@ -5,7 +5,7 @@ use mir.Syntax.{w64}
 use mir.Val.{Fits}
 use lib.ListN.{length}
 use Rattle.output.specs.declared.Output.{Output}
-use Rattle.output.specs.Pieces.{Part, stateOf, partOf, FilledPart}
+use Rattle.output.specs.Pieces.{stateOf, partOf, FilledPart}
 use Rattle.output.proofs.Lines.{line-part, none-part, refusal-short, end-short}
 use borrow.Author.Needs.{needs}
 use Rattle.output.proofs.fill.part.Statement.{statement}

@@ -9,7 +9,7 @@ use Rattle.calls.specs.Session.{handOut, step}
 use Rattle.stages.specs.declared.Answer.{Answer}
 use Rattle.stages.specs.World.{world}
 use Rattle.stages.specs.Session.{meaning, outcome}
-use Rattle.listing.specs.Given.{leftOf, page-handed, page-less}
+use Rattle.listing.specs.Given.{page-handed, page-less}
 use borrow.Author.Needs.{needs}
 use Rattle.printing.proofs.counting.count_page.Statement.{statement}
 use Rattle.printing.proofs.counting.count_page.Tie as tie

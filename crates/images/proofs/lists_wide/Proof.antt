@@ -1,8 +1,8 @@
 use mathlib.Core.Path.{sym, _∙_}
 use borrow.Author.Needs.{needs}
 use Rattle.question.specs.Image.{narrowed-listed, wide-unlisted}
-use Rattle.image.proofs.lists_wide.Statement.{statement}
-use Rattle.image.proofs.lists_wide.Tie as tie
+use Rattle.images.proofs.lists_wide.Statement.{statement}
+use Rattle.images.proofs.lists_wide.Tie as tie
 
 narrow-requires : tie.Need-narrow-requires
 narrow-requires c κs = search needs

@@ -1,8 +1,8 @@
 use Rattle.stages.specs.World.{isImage}
 use mathlib.Core.Path.{refl, sym, _∙_}
 use borrow.Author.Needs.{needs}
-use Rattle.image.proofs.is_image.Statement.{statement}
-use Rattle.image.proofs.is_image.Tie as tie
+use Rattle.images.proofs.is_image.Statement.{statement}
+use Rattle.images.proofs.is_image.Tie as tie
 
 inverse-requires : tie.Need-inverse-requires
 inverse-requires c κs = search needs
