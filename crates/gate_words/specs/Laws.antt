@@ -66,7 +66,7 @@ holds true b e g = sym e ∙ g
 holds false b e g = let z : _≡_ {A = ℕ} 0 1 = cc in absurd (omega arith)
 
 module _ (k : ℕ) (u t : Point) where
-  -- the equation of Ticket 2, as `spelling` has it
+  -- the equation of SPEC, "Other entry", as `spelling` has it
   pub solves : completes k u t ≡ true → Equation k u t
   unfolding completes squares cross
   solves e =

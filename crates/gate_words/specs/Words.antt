@@ -19,7 +19,7 @@ use Rattle.gate_words.specs.declared.Answer.{Answer}
 use Rattle.gate_words.specs.declared.Answer.the-variants.{First, Second, Refused}
 use Rattle.gate_words.specs.declared.Part.{Part}
 
--- "Checks: 4 for k above the top, then 12 if the Ticket 2 equation fails, then 13 ..": the document's number of each refusal
+-- the number of each refusal (SPEC, "Gate words"): 4 for k above the top, then 12 if the equation of "Other entry" fails, then 13 if a word is longer than its slice
 abbrev pub numberOf : Refusal → ℕ
 numberOf OutOfRange = 4
 numberOf NotUnitary = 12

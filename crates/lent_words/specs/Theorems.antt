@@ -1,4 +1,4 @@
--- SPEC, "Gate words": what is true of the words, for all k, u and t that solve the equation of Ticket 2.
+-- SPEC, "Gate words": what is true of the words, for all k, u and t that solve the equation of "Other entry".
 use mathlib.Core.Path.{_≡_, sym, _∙_, ap}
 use mathlib.Core.Bool.{true, false, cond}
 use mathlib.Core.List.{List}
@@ -47,7 +47,7 @@ module _ (k : ℕ) (u t : Point) (e : completes k u t ≡ true) where
   pub TUT-only : (w : List Letter) → Normal w → Spells w k (made u (turn t) 0) → w ≡ wordTUT k u t
   TUT-only w n s = only-word k u (turn t) (equation-turn k u t (solves k u t e)) w n s
 
-  -- "its T number is the m of Ticket 3": 2e − 2, and 0 where e = 0
+  -- its number of T is the pulse count of u (SPEC, "Exponent"): 2e − 2, and 0 where e = 0
   pub handed-Ts : Ts (named (wordU k u t) (wordTUT k u t) (handed k u t)) ≡ pulseCount (exponentOf k u)
   handed-Ts = fewer (decLt (Ts (wordTUT k u t)) (Ts (wordU k u t))) ∙ least-Ts k u t (solves k u t e) ∙ sym (pulse-is (exponentOf k u))
     where

@@ -45,7 +45,7 @@ pub data Row : Type 0 where
   line : ℤ → List ℤ → Row
   -- the listed points of a job, in order; all solutions lie within ±m
   job : Job → (m : ℕ) → List Point → Row
-  -- the points w that solve the equation of Ticket 2 with v at scale k, in order
+  -- the points w that solve the equation of SPEC, "Other entry", with v at scale k, in order
   entry : ℕ → Point → List Point → Row
   -- the exponent of v/√2^k
   exponent : ℕ → Point → ℕ → Row
