@@ -286,12 +286,15 @@ entries() {
 # Hard random jobs: first points, the plain question and next points in
 # processor time beyond the program's start, and those over the limit in ms.
 hard_jobs() {
-    echo 'Hard random jobs, k up to 12 with the limit of 10 ms, k from 13 to 20 with that of 20 ms:'
-    "$peer" time "$bin/console" "$seed" "$hard" 0 12 10
-    "$peer" time "$bin/console" "$seed" "$hard" 13 20 20
+    local slices
+    for slices in 0 3; do
+        echo "Hard random jobs, k up to 12 with the limit of 10 ms, k from 13 to 20 with that of 20 ms; slices, one side in so many: $slices"
+        "$peer" time "$bin/console" "$seed" "$hard" 0 12 "$slices" 10
+        "$peer" time "$bin/console" "$seed" "$hard" 13 20 "$slices" 20
+    done
     echo 'The shortest pattern of hard random jobs, with the limit of 2 s:'
-    "$peer" time "$bin/console" "$seed" "$hard" 0 12 2000 shortest
-    "$peer" time "$bin/console" "$seed" "$((hard / 10))" 13 20 2000 shortest
+    "$peer" time "$bin/console" "$seed" "$hard" 0 12 3 2000 shortest
+    "$peer" time "$bin/console" "$seed" "$((hard / 10))" 13 20 3 2000 shortest
 }
 
 whole_lists

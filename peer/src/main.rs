@@ -51,7 +51,7 @@ const USAGE: &str = "usage: peer [list | count | first] < job
        peer pack < records > job
        peer jobs DIR
        peer noise
-       peer time CONSOLE SEED COUNT LEAST MOST LIMIT [CALL]
+       peer time CONSOLE SEED COUNT LEAST MOST SLICES LIMIT [CALL]
        peer bytes PROGRAM FROM TO STEP";
 
 type Outcome = Result<(), Box<dyn Error>>;
