@@ -14,7 +14,7 @@ use Rattle.integers.specs.RingZ as Z
 use Rattle.ring.specs.declared.RootTwo.{RootTwo}
 use Rattle.ring.specs.RootTwo.{_⊞_, _⊟_, _⊠_, neg, conj, num, √2, ring√, ext, parts, sum-parts, neg-parts, num-parts, num-*}
 use Rattle.ring.specs.RootTwo.Order.{Nn, nn-by, nn-+, nn-*, nn-num, nn-√2, nn-cancel, nn-zero, num-⊑}
-use Rattle.rows.specs.declared.Strip.{Strip}
+use Rattle.rows.specs.declared.Band.{Band}
 use Rattle.rows.specs.Row.{at, above, below}
 use Rattle.rows.specs.Both.{both-true}
 use Rattle.rows.specs.Steps.{solved, shiftOf, timesOf, conj-⊟, undo, inverse-sym, Even, even-unit, shift-holds, scale-even}
@@ -26,13 +26,13 @@ image α u z = u ⊠ (z ⊟ α)
 abbrev pub origin : RootTwo → RootTwo → RootTwo → RootTwo
 origin α u z = conj u ⊠ z ⊞ α
 
-abbrev pub firstOf : Strip → RootTwo → RootTwo → Strip
+abbrev pub firstOf : Band → RootTwo → RootTwo → Band
 firstOf s α u = timesOf (shiftOf s α) u
 
-abbrev pub secondOf : Strip → RootTwo → RootTwo → Strip
+abbrev pub secondOf : Band → RootTwo → RootTwo → Band
 secondOf t α u = timesOf (shiftOf t (conj α)) (conj u)
 
-pub steps-hold : (s t : Strip) (α u z : RootTwo) → Even u → solved s t z ≡ solved (firstOf s α u) (secondOf t α u) (image α u z)
+pub steps-hold : (s t : Band) (α u z : RootTwo) → Even u → solved s t z ≡ solved (firstOf s α u) (secondOf t α u) (image α u z)
 steps-hold s t α u z e = shift-holds s t α z ∙ scale-even (shiftOf s α) (shiftOf t (conj α)) u (z ⊟ α) e
 
 pub image-origin : (α u z : RootTwo) → Even u → image α u (origin α u z) ≡ z
@@ -48,13 +48,13 @@ origin-image α u z e = ap (λ x. x ⊞ α) (undo (even-unit e) (z ⊟ α)) ∙ 
     less x y = by-ring ring√ (x ∷ y ∷ []) (search poly depth 30) refl
 
 -- ---- the four bounds of a solution
-pub record Bounds (s t : Strip) (z : RootTwo) : Type 0 where
+pub record Bounds (s t : Band) (z : RootTwo) : Type 0 where
   pub lo : Nn (num (s .m) ⊠ z ⊟ s .lo)
   pub hi : Nn (s .hi ⊟ num (s .m) ⊠ z)
   pub conj-lo : Nn (num (t .m) ⊠ conj z ⊟ t .lo)
   pub conj-hi : Nn (t .hi ⊟ num (t .m) ⊠ conj z)
 
-pub bounds : (s t : Strip) (z : RootTwo) → solved s t z ≡ true → Bounds s t z
+pub bounds : (s t : Band) (z : RootTwo) → solved s t z ≡ true → Bounds s t z
 bounds s t z e =
     let (f, g) = both-true _ _ e in
     let (a, b) = both-true _ _ f in
@@ -62,7 +62,7 @@ bounds s t z e =
     record { lo = record { nn = a }; hi = record { nn = b }; conj-lo = record { nn = c }; conj-hi = record { nn = d } }
 
 -- hi − lo ≤ k m
-abbrev pub Wide : ℤ → Strip → Type 0
+abbrev pub Wide : ℤ → Band → Type 0
 Wide k s = Nn (num k ⊠ num (s .m) ⊟ (s .hi ⊟ s .lo))
 
 -- ---- x + x• = 2p
@@ -94,7 +94,7 @@ zero-p x e = ap (λ (x : RootTwo). x .p) (e ∙ num-parts (pos 0))
 abbrev pub NotBefore : RootTwo → RootTwo → Type 0
 NotBefore z w = (z .p ≺ w .p) ⊎ ((z .p ≡ w .p) × (z .q ≼ w .q))
 
-module _ (s t : Strip) (α u : RootTwo) (e : Even u) (one : pos 1 ≼ t .m) where
+module _ (s t : Band) (α u : RootTwo) (e : Even u) (one : pos 1 ≼ t .m) where
   abbrev positive : pos 0 ≼ t .m
   positive = ≼-trans (pos 0) (pos 1) (t .m) (record { le = tt }) one
 
@@ -146,10 +146,10 @@ module _ (s t : Strip) (α u : RootTwo) (e : Even u) (one : pos 1 ≼ t .m) wher
         (nn-by (step (num (t .m)) (num (d' .p)) (conj z') (conj w') (T .hi) (T .lo) ∙ ap (λ x. num (t .m) ⊠ x) (ap (λ x. x ⊟ (num (d' .p) ⊞ num (d' .p))) (sym (conj-⊟ z' w')) ∙ to-neg d'))
         (nn-+ (nn-+ (nn-+ (nn-+ more more) wide) (bounds S T z' (sym (steps-hold s t α u z e) ∙ hz) .conj-lo)) (bounds S T w' (sym (steps-hold s t α u w e) ∙ hw) .conj-hi)))
       where
-        S : Strip
+        S : Band
         S = firstOf s α u
 
-        T : Strip
+        T : Band
         T = secondOf t α u
 
         go : (a b : ℤ) → a ≺ b → a -ℤ b ≼ negsuc 0
@@ -190,13 +190,13 @@ module _ (s t : Strip) (α u : RootTwo) (e : Even u) (one : pos 1 ≼ t .m) wher
 abbrev pub endOf : RootTwo → ℤ → RootTwo → RootTwo → RootTwo
 endOf u k x y = u ⊠ (num k ⊟ x) ⊞ y
 
-abbrev pub rowsIn : Strip → Strip → RootTwo → RootTwo → ℤ → ℤ → Strip
+abbrev pub rowsIn : Band → Band → RootTwo → RootTwo → ℤ → ℤ → Band
 rowsIn t g α u a b = record { m = pos 2 *ℤ t .m; lo = endOf u (pos 2 *ℤ t .m *ℤ (a -ℤ α .p)) (t .hi) (g .lo); hi = endOf u (pos 2 *ℤ t .m *ℤ (b -ℤ α .p)) (t .lo) (g .hi) }
 
-abbrev pub rowsOf : Strip → RootTwo → RootTwo → ℤ → ℤ → Strip
+abbrev pub rowsOf : Band → RootTwo → RootTwo → ℤ → ℤ → Band
 rowsOf t α u a b = rowsIn (shiftOf t (conj α)) (secondOf t α u) α u a b
 
-module _ (s t : Strip) (α u : RootTwo) (e : Even u) (one : pos 1 ≼ t .m) (w : RootTwo) (hw : solved s t w ≡ true) where
+module _ (s t : Band) (α u : RootTwo) (e : Even u) (one : pos 1 ≼ t .m) (w : RootTwo) (hw : solved s t w ≡ true) where
   abbrev x : RootTwo
   x = w ⊟ α
 

@@ -9,7 +9,7 @@ use Rattle.integers.specs.Size.{size--, size-*≤}
 use Rattle.ring.specs.declared.RootTwo.{RootTwo}
 use Rattle.ring.specs.RootTwo.{conj, conj-parts}
 use Rattle.ring.specs.RootTwo.Sized.{conj-size, less-size, product-size}
-use Rattle.rows.specs.declared.Strip.{Strip}
+use Rattle.rows.specs.declared.Band.{Band}
 use Rattle.rows.specs.Row.{at, above, below, coordinate-mono}
 use Rattle.rows.specs.Both.{is-false, both-true, both-of}
 use Rattle.rows.specs.Steps.{solved, shiftOf, Even}
@@ -71,16 +71,16 @@ pub skips-none : (i j : Interval) (a : ℕ) → a ≤ span → Skips i j a a
 skips-none i j a h = record { from = omega arith; within = h; none = λ x b k l. absurd (omega arith) }
 
 module _ (i j : Interval) (ok : accepted i j ≡ true) (o u : RootTwo) (o-size : Sized whole o) (e : Even u) (u-size : Sized unitSize u) (a : ℕ) (a-in : a ≤ span) where
-  abbrev s : Strip
+  abbrev s : Band
   s = stripOf i
 
-  abbrev t : Strip
+  abbrev t : Band
   t = stripOf j
 
-  abbrev f : Strip
+  abbrev f : Band
   f = firstOf s o u
 
-  abbrev g : Strip
+  abbrev g : Band
   g = secondOf t o u
 
   abbrev last : ℕ

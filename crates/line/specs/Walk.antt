@@ -11,7 +11,7 @@ use Rattle.integers.specs.Difference.{by⊖, zz, _≼_, _≺_}
 use Rattle.integers.specs.Order.{≼-trans, ≺→≼, ≺-irrefl}
 use Rattle.ring.specs.declared.RootTwo.{RootTwo}
 use Rattle.ring.specs.RootTwo.{conj, ext}
-use Rattle.rows.specs.declared.Strip.{Strip}
+use Rattle.rows.specs.declared.Band.{Band}
 use Rattle.rows.specs.Row.{at, coordinate, coordinate-mono, above, below, below-anti, whole-⊑, lower, upper, Near, First, Digit, digit-of}
 use Rattle.rows.specs.Row as Row
 use Rattle.rows.specs.Both.{regroup}
@@ -54,21 +54,21 @@ digit-≺ x y h = go (pos x) (pos y) (pos middle) (record { lt = lt→ltb x y h 
     go (no l) = omega arith
 
 -- ---- rows
-pub solved-row : (s t : Strip) (a b : ℤ) → solved s t (at a b) ≡ lower s t a b && upper s t a b
+pub solved-row : (s t : Band) (a b : ℤ) → solved s t (at a b) ≡ lower s t a b && upper s t a b
 solved-row s t a b = regroup (above s (at a b)) (below s (at a b)) (above t (conj (at a b))) (below t (conj (at a b)))
 
-pub near : (s t : Strip) (x y : ℕ) → Ends scaled s → Ends scaled t → x ≤ top → y ≤ top → Near s t middle x y
+pub near : (s t : Band) (x y : ℕ) → Ends scaled s → Ends scaled t → x ≤ top → y ≤ top → Near s t middle x y
 near s t x y e f h k = record { first = small scaled s (omega arith) e; second = small scaled t (omega arith) f; middle = omega arith; row = omega arith; column = omega arith }
 
 -- the first pair of the row x from y on, or top
-pub record InRow (s t : Strip) (x y r : ℕ) : Type 0 where
+pub record InRow (s t : Band) (x y r : ℕ) : Type 0 where
   pub from : y ≤ r
   pub within : r ≤ top
   pub before : (k : ℕ) → y ≤ k → k < r → solved s t (pairAt x k) ≡ false
   pub found : r < top → solved s t (pairAt x r) ≡ true
 
 -- ---- what the walk is given, and what it finds: no pair with a from `a` on lies before r
-pub record Ready (f g w : Strip) (o u : RootTwo) (a : ℕ) : Type 0 where
+pub record Ready (f g w : Band) (o u : RootTwo) (a : ℕ) : Type 0 where
   pub first : Ends scaled f
   pub second : Ends scaled g
   pub rows : Ends rowEnd w
@@ -80,23 +80,23 @@ pub record Ready (f g w : Strip) (o u : RootTwo) (a : ℕ) : Type 0 where
   pub from : (z : RootTwo) → solved f g z ≡ true → Line.coordinate a ≼ origin o u z .p → (above w (at (z .p) (pos 0)) ≡ true) × (below w (at (z .p) (pos 0)) ≡ true)
   pub size : (z : RootTwo) → solved f g z ≡ true → (natAbs (z .p) < middle) × (natAbs (z .q) < middle)
 
-pub record Passed (f g : Strip) (o u : RootTwo) (a r : ℕ) : Type 0 where
+pub record Passed (f g : Band) (o u : RootTwo) (a r : ℕ) : Type 0 where
   pub from : a ≤ r
   pub within : r ≤ span
   pub none : (z : RootTwo) → solved f g z ≡ true → Line.coordinate a ≼ origin o u z .p → origin o u z .p ≺ Line.coordinate r → ⊥
 
-pub ready-by : {f f' g g' w w' : Strip} {o u : RootTwo} {a : ℕ} → f ≡ f' → g ≡ g' → w ≡ w' → Ready f' g' w' o u a → Ready f g w o u a
+pub ready-by : {f f' g g' w w' : Band} {o u : RootTwo} {a : ℕ} → f ≡ f' → g ≡ g' → w ≡ w' → Ready f' g' w' o u a → Ready f g w o u a
 ready-by {f} {f'} {g} {g'} {w} {w'} {o} {u} {a} p q r h =
     subst (λ x. Ready x g w o u a) (sym p) (subst (λ x. Ready f' x w o u a) (sym q) (subst (λ x. Ready f' g' x o u a) (sym r) h))
 
-pub passed-by : {f f' g g' : Strip} {o u : RootTwo} {a r : ℕ} → f ≡ f' → g ≡ g' → Passed f g o u a r → Passed f' g' o u a r
+pub passed-by : {f f' g g' : Band} {o u : RootTwo} {a r : ℕ} → f ≡ f' → g ≡ g' → Passed f g o u a r → Passed f' g' o u a r
 passed-by {f} {f'} {g} {g'} {o} {u} {a} {r} p q h = subst (λ x. Passed f' x o u a r) q (subst (λ x. Passed x g o u a r) p h)
 
 -- all that is wanted lies from (x, y) on
-abbrev pub Ahead : Strip → Strip → RootTwo → RootTwo → ℕ → ℕ → ℕ → Type 0
+abbrev pub Ahead : Band → Band → RootTwo → RootTwo → ℕ → ℕ → ℕ → Type 0
 Ahead f g o u a x y = (z : RootTwo) → solved f g z ≡ true → Line.coordinate a ≼ origin o u z .p → NotBefore (pairAt x y) z
 
-module _ (f g w : Strip) (o u : RootTwo) (a : ℕ) (ready : Ready f g w o u a) where
+module _ (f g w : Band) (o u : RootTwo) (a : ℕ) (ready : Ready f g w o u a) where
   from-row : (z : RootTwo) → solved f g z ≡ true → (x : ℕ) (d : Digit middle (z .p)) → x ≤ d .digit → NotBefore (pairAt x 0) z
   from-row z hz x d l = go (decLt x (d .digit))
     where

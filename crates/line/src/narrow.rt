@@ -18,7 +18,7 @@ use ring::RootTwo;
 use ring::exact::combined;
 use ring::exact::conjugate;
 use ring::exact::product;
-use rows::Strip;
+use rows::Band;
 
 // The digit of 0 in the scaled problem, and the number of digits.
 const HALF: u64 = 4294967296;
@@ -71,7 +71,7 @@ fn skip(first: Interval, second: Interval, a: u64) -> u64
 }
 
 // Step 2: α₀ = a₀ + b₀√2 of Lemma 2.3, a₀ = ⌊(I_l + J_l)/2⌋ and b₀ near (I_l − J_l)/√8, the ends rounded first.
-fn alpha0(s: Strip, t: Strip) -> RootTwo
+fn alpha0(s: Band, t: Band) -> RootTwo
     requires { ⌜ Ranged s × Ranged t ⌝ }
     ensures { λ r. ⌜ Sized whole r ⌝ }
 {
@@ -84,11 +84,11 @@ fn alpha0(s: Strip, t: Strip) -> RootTwo
 }
 
 // Internal step 6, a_min and a_max: the strip of the rows a' of the pairs whose a has a digit from a to b.
-fn row_strip(t: Strip, g: Strip, o: RootTwo, u: RootTwo, a: u64, b: u64) -> Strip
+fn row_strip(t: Band, g: Band, o: RootTwo, u: RootTwo, a: u64, b: u64) -> Band
     requires { ⌜ Ends shifted t × Ends scaled g × Sized whole o × Sized unitSize u × (a ≤ span) × (b ≤ span) ⌝ }
     ensures { λ r. ⌜ r ≡ rowsIn t g o u (line.coordinate a) (line.coordinate b) ⌝ }
 {
-    Strip {
+    Band {
         m: 2 * t.m,
         lo: steps::end(u, reach(t.m, o.p, a), t.hi, g.lo),
         hi: steps::end(u, reach(t.m, o.p, b), t.lo, g.hi),
@@ -104,7 +104,7 @@ fn reach(m: i64, p: i64, t: u64) -> i64
 }
 
 // Internal steps 6 and 7, by a' and then b': the row of the first pair from the row a on, or the number of rows.
-fn walk(f: Strip, g: Strip, w: Strip, o: RootTwo, u: RootTwo, a: u64) -> u64
+fn walk(f: Band, g: Band, w: Band, o: RootTwo, u: RootTwo, a: u64) -> u64
     requires { ⌜ Ready f g w o u a ⌝ }
     ensures { λ r. ⌜ Passed f g o u a r ⌝ }
 {
@@ -137,7 +137,7 @@ fn walk(f: Strip, g: Strip, w: Strip, o: RootTwo, u: RootTwo, a: u64) -> u64
 }
 
 // Internal step 7: the first digit of b' from y on that has a pair in the row x, or TOP.
-fn in_row(f: Strip, g: Strip, x: u64, y: u64) -> u64
+fn in_row(f: Band, g: Band, x: u64, y: u64) -> u64
     requires { ⌜ Ends scaled f × Ends scaled g × (x ≤ top) × (y ≤ top) ⌝ }
     ensures { λ r. ⌜ InRow f g x y r ⌝ }
 {

@@ -12,14 +12,14 @@ use ring::RootTwo;
 use ring::exact::combined;
 use ring::exact::is_nonneg;
 use ring::exact::product;
-use rows::Strip;
+use rows::Band;
 
 // Step 2: I − α₀, or J − α₀•.
-pub(crate) fn shift(s: Strip, w: RootTwo) -> Strip
+pub(crate) fn shift(s: Band, w: RootTwo) -> Band
     requires { ⌜ Ends whole s × Sized whole w ⌝ }
     ensures { λ r. ⌜ r ≡ shiftOf s w ⌝ }
 {
-    Strip {
+    Band {
         m: s.m,
         lo: combined(1, s.lo, -s.m, w),
         hi: combined(1, s.hi, -s.m, w),
@@ -27,7 +27,7 @@ pub(crate) fn shift(s: Strip, w: RootTwo) -> Strip
 }
 
 // Internal step 4: n = −2k, for the greatest k up to 5 at which the strip times (3 + 2√2)^k is at most 2 wide, or 0.
-pub(crate) fn exponent(s: Strip) -> u64
+pub(crate) fn exponent(s: Band) -> u64
     requires { ⌜ Ends whole s ⌝ }
 {
     let w = s.hi.p - s.lo.p;
@@ -65,11 +65,11 @@ pub(crate) fn power(k: u64) -> RootTwo
 }
 
 // Internal step 5: λ^n I, or (λ•)^n J, for an even n.
-pub(crate) fn scale(s: Strip, u: RootTwo) -> Strip
+pub(crate) fn scale(s: Band, u: RootTwo) -> Band
     requires { ⌜ Ends shifted s × Sized unitSize u ⌝ }
     ensures { λ r. ⌜ r ≡ timesOf s u ⌝ }
 {
-    Strip {
+    Band {
         m: s.m,
         lo: product(u, s.lo),
         hi: product(u, s.hi),
@@ -87,7 +87,7 @@ pub(crate) fn end(u: RootTwo, k: i64, x: RootTwo, y: RootTwo) -> RootTwo
 }
 
 // Whether hi − lo ≤ k·m.
-pub(crate) fn is_within(s: Strip, k: i64) -> bool
+pub(crate) fn is_within(s: Band, k: i64) -> bool
     requires { ⌜ Ends scaled s × (natAbs k ≤ 2) ⌝ }
     ensures { λ r. ⌜ r ≡ nonneg (num k ⊠ num (s .m) ⊟ (s .hi ⊟ s .lo)) ⌝ }
 {

@@ -3,7 +3,7 @@ ghost use Prim.Native.Nat.{_≤_};
 ghost use lib.IntN.{natAbs};
 ghost use Rattle.strips.specs.Strips.{endSize, Ends};
 use ring::RootTwo;
-use rows::Strip;
+use rows::Band;
 use strips::Strips;
 
 // Half way from x to y, or near it.
@@ -14,13 +14,13 @@ fn middle(x: i64, y: i64) -> i64
     if x == y { x } else { x / 2 + y / 2 }
 }
 
-fn upper_half(s: Strip) -> Strip
+fn upper_half(s: Band) -> Band
     requires { ⌜ Ends s ⌝ }
     ensures { λ r. ⌜ Ends r ⌝ }
 {
     let l = s.lo;
     let h = s.hi;
-    Strip {
+    Band {
         m: s.m,
         lo: RootTwo {
             p: middle(l.p, h.p),

@@ -12,7 +12,7 @@ mod lines;
 mod search;
 
 use operator::Operator;
-use reduction::Turn;
+use reduction::Invertible;
 pub use reduction::propose;
 use reduction::usable;
 use region::Job;
@@ -49,7 +49,7 @@ fn searched(job: Job, caller: Operator) -> bool
     search::search(job, reduction::oriented(job, in_force(job, caller)))
 }
 
-fn in_force(job: Job, caller: Operator) -> Turn
+fn in_force(job: Job, caller: Operator) -> Invertible
     requires { ⌜ acceptedJob job ≡ true ⌝ }
     ensures { λ r. ⌜ Undoing r ⌝ }
 {

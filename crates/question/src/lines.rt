@@ -14,7 +14,7 @@ use ring::exact::combined;
 use ring::exact::conjugate;
 use ring::exact::is_nonneg;
 use ring::exact::product;
-use rows::Strip;
+use rows::Band;
 use strips::Strips;
 use strips::units;
 
@@ -23,20 +23,20 @@ pub(crate) const HALF: u64 = 549755813888;
 
 pub(crate) const TOP: u64 = 1099511627776;
 
-pub(crate) struct Line {
-    pub first: Strip,
-    pub second: Strip,
+pub(crate) struct Problem {
+    pub first: Band,
+    pub second: Band,
     pub back: RootTwo,
     pub from: u64,
     pub end: u64,
 }
 
 // The strip of 2p = ζ + ζ•, and so of the rows.
-fn joined(s: Strip, t: Strip) -> Strip
+fn joined(s: Band, t: Band) -> Band
     requires { ⌜ Ends s × Ends t ⌝ }
     ensures { λ r. ⌜ r ≡ joinedOf s t ⌝ }
 {
-    Strip {
+    Band {
         m: 2 * (s.m * t.m),
         lo: combined(t.m, s.lo, s.m, t.lo),
         hi: combined(t.m, s.hi, s.m, t.hi),
@@ -44,7 +44,7 @@ fn joined(s: Strip, t: Strip) -> Strip
 }
 
 // Whether lo ≤ hi.
-fn is_proper(s: Strip) -> bool
+fn is_proper(s: Band) -> bool
     requires { ⌜ Ends s ⌝ }
     ensures { λ r. ⌜ r ≡ nonneg (s .hi ⊟ s .lo) ⌝ }
 {
@@ -53,12 +53,12 @@ fn is_proper(s: Strip) -> bool
 }
 
 // The line without rows.
-fn without_rows(s: Strips, back: RootTwo) -> Line
+fn without_rows(s: Strips, back: RootTwo) -> Problem
     ensures { λ r. ⌜ r ≡ rowless s back ⌝ }
 {
     let f = s.first;
     let g = s.second;
-    Line {
+    Problem {
         first: f,
         second: g,
         back: back,
@@ -68,7 +68,7 @@ fn without_rows(s: Strips, back: RootTwo) -> Line
 }
 
 // The line with its rows: none where a strip is empty.
-fn with_rows(s: Strips, back: RootTwo) -> Line
+fn with_rows(s: Strips, back: RootTwo) -> Problem
     requires { ⌜ Ends (s .first) × Ends (s .second) × Sized (2 ^ 17) (2 ^ 17) back ⌝ }
     ensures { λ r. ⌜ Line-with s back r ⌝ }
 {
@@ -82,12 +82,12 @@ fn with_rows(s: Strips, back: RootTwo) -> Line
     }
     let j = joined(f, g);
     let h = j.hi;
-    let u = Strip {
+    let u = Band {
         m: j.m,
         lo: h,
         hi: h,
     };
-    Line {
+    Problem {
         first: f,
         second: g,
         back: back,
@@ -97,7 +97,7 @@ fn with_rows(s: Strips, back: RootTwo) -> Line
 }
 
 // The line of two strips, scaled so that its rows are few.
-pub(crate) fn of_strips(s: Strips) -> Line
+pub(crate) fn of_strips(s: Strips) -> Problem
     requires { ⌜ Ends (s .first) × Ends (s .second) ⌝ }
     ensures { λ r. ⌜ Line-of s r ⌝ }
 {
@@ -111,7 +111,7 @@ pub(crate) fn of_strips(s: Strips) -> Line
 }
 
 // The least digit of a row's q at which two of the four bounds hold: they hold from there on.
-pub(crate) fn start(l: Line, t: u64) -> u64
+pub(crate) fn start(l: Problem, t: u64) -> u64
     requires { ⌜ Searchable l × (t ≤ top) ⌝ }
     ensures { λ r. ⌜ Least (λ q. lower (l .first) (l .second) (coordinate middle t) (coordinate middle q)) 0 top r ⌝ }
 {
@@ -119,7 +119,7 @@ pub(crate) fn start(l: Line, t: u64) -> u64
 }
 
 // Whether the other two bounds hold: they hold up to some digit.
-pub(crate) fn reaches(l: Line, t: u64, q: u64) -> bool
+pub(crate) fn reaches(l: Problem, t: u64, q: u64) -> bool
     requires { ⌜ Searchable l × (t ≤ top) × (q ≤ top) ⌝ }
     ensures { λ r. ⌜ r ≡ upper (l .first) (l .second) (coordinate middle t) (coordinate middle q) ⌝ }
 {
@@ -127,7 +127,7 @@ pub(crate) fn reaches(l: Line, t: u64, q: u64) -> bool
 }
 
 // Whether a pair lies in the line.
-pub(crate) fn has_pair(l: Line) -> bool
+pub(crate) fn has_pair(l: Problem) -> bool
     requires { ⌜ Searchable l ⌝ }
     ensures { λ r. ⌜ (r ≡ false → Pairless l) ⌝ }
 {
@@ -146,7 +146,7 @@ pub(crate) fn has_pair(l: Line) -> bool
 }
 
 // What a pair of digits stands for.
-pub(crate) fn number(l: Line, t: u64, q: u64) -> RootTwo
+pub(crate) fn number(l: Problem, t: u64, q: u64) -> RootTwo
     requires { ⌜ Searchable l × (t ≤ top) × (q ≤ top) ⌝ }
     ensures { λ r. ⌜ (r ≡ l .back ⊠ pairAt t q) × Sized (2 ^ 60) (2 ^ 60) r ⌝ }
 {

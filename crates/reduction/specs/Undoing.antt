@@ -8,13 +8,13 @@ use Rattle.operator.specs.Inverse.{inverseOf, one, im}
 use Rattle.operator.specs.Undoes.{inverse-is}
 use Rattle.operator.specs.Accepted.{accepted}
 use Rattle.strips.specs.Reach.{Direction}
-use Rattle.reduction.specs.declared.Turn.{Turn}
+use Rattle.reduction.specs.declared.Invertible.{Invertible}
 
 -- an operator and its inverse
-pub record Undoing (g : Turn) : Type 0 where
+pub record Undoing (g : Invertible) : Type 0 where
   pub undone : inverseOf (g .there) ≡ Undo (g .back)
 
-pub direction-x : (g : Turn) → Undoing g → Direction (√2x (one (g .there))) (√2x (im (g .there)))
+pub direction-x : (g : Invertible) → Undoing g → Direction (√2x (one (g .there))) (√2x (im (g .there)))
 direction-x g u =
     let s = accepted (g .there) (inverse-is _ _ (u .undone) .0) .small in
     rw (√2x-parts, √2x-parts) (record {
@@ -22,7 +22,7 @@ direction-x g u =
       second = record { p = omega (arith, s .ci, s .ai, size-- (g .there .ci) (g .there .ai)); q = omega (arith, s .di) };
     })
 
-pub direction-y : (g : Turn) → Undoing g → Direction (√2y (one (g .there))) (√2y (im (g .there)))
+pub direction-y : (g : Invertible) → Undoing g → Direction (√2y (one (g .there))) (√2y (im (g .there)))
 direction-y g u =
     let s = accepted (g .there) (inverse-is _ _ (u .undone) .0) .small in
     rw (√2y-parts, √2y-parts) (record {

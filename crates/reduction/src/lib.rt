@@ -17,7 +17,7 @@ pub use reduce::oriented;
 use region::Job;
 
 // An operator and its inverse.
-pub struct Turn {
+pub struct Invertible {
     pub there: Operator,
     pub back: Operator,
 }
@@ -35,13 +35,13 @@ pub fn propose(job: Job) -> Operator
 }
 
 // The operator with its inverse, or the identity for one that the test refuses.
-pub fn usable(g: Operator) -> Turn
+pub fn usable(g: Operator) -> Invertible
     ensures { λ r. ⌜ Undoing r ⌝ }
 {
     let i = g.inverse();
     match i {
-        Inverse::Operator(h) => Turn { there: g, back: h },
-        Inverse::Refused(_) => Turn {
+        Inverse::Operator(h) => Invertible { there: g, back: h },
+        Inverse::Refused(_) => Invertible {
             there: Operator::IDENTITY,
             back: Operator::IDENTITY,
         },

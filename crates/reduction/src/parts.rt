@@ -6,7 +6,7 @@ ghost use Rattle.region.specs.Region.{acceptedJob};
 ghost use Rattle.operator.specs.Inverse.{one, im};
 ghost use Rattle.strips.specs.Strips.{Strips-of};
 ghost use Rattle.reduction.specs.Undoing.{Undoing};
-use crate::Turn;
+use crate::Invertible;
 use operator::Operator;
 use region::Job;
 use ring::Point;
@@ -36,7 +36,7 @@ pub(crate) fn im(g: Operator) -> Point
 }
 
 // The strips of the real part of Gv for the solutions v.
-pub fn real_strips(job: Job, g: Turn) -> Strips
+pub fn real_strips(job: Job, g: Invertible) -> Strips
     requires { ⌜ (acceptedJob job ≡ true) × Undoing g ⌝ }
     ensures { λ r. ⌜ Strips-of job (√2x (one (g .there))) (√2x (im (g .there))) r ⌝ }
 {
@@ -47,7 +47,7 @@ pub fn real_strips(job: Job, g: Turn) -> Strips
 }
 
 // The same of the imaginary part.
-pub fn imaginary_strips(job: Job, g: Turn) -> Strips
+pub fn imaginary_strips(job: Job, g: Invertible) -> Strips
     requires { ⌜ (acceptedJob job ≡ true) × Undoing g ⌝ }
     ensures { λ r. ⌜ Strips-of job (√2y (one (g .there))) (√2y (im (g .there))) r ⌝ }
 {

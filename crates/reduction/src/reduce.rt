@@ -5,7 +5,7 @@ ghost use Prim.Native.Nat.{_≤_};
 ghost use Rattle.region.specs.Region.{acceptedJob};
 ghost use Rattle.strips.specs.Strips.{Ends};
 ghost use Rattle.reduction.specs.Undoing.{Undoing};
-use crate::Turn;
+use crate::Invertible;
 use crate::generators::GENERATORS;
 use crate::generators::composed;
 use crate::generators::sending;
@@ -30,7 +30,7 @@ const LARGE: u64 = 704;
 
 // An operator, and about how large its boxes are.
 struct Reached {
-    turn: Turn,
+    turn: Invertible,
     size: u64,
 }
 
@@ -64,7 +64,7 @@ fn size(s: Strips) -> u64
     }
 }
 
-fn measured(job: Job, g: Turn) -> Reached
+fn measured(job: Job, g: Invertible) -> Reached
     requires { ⌜ (acceptedJob job ≡ true) × Undoing g ⌝ }
     ensures { λ r. ⌜ Undoing (r .turn) ⌝ }
 {
@@ -100,7 +100,7 @@ fn step(job: Job, from: Reached) -> Reached
     best
 }
 
-pub(crate) fn reduced(job: Job) -> Turn
+pub(crate) fn reduced(job: Job) -> Invertible
     requires { ⌜ acceptedJob job ≡ true ⌝ }
     ensures { λ r. ⌜ Undoing r ⌝ }
 {
@@ -118,7 +118,7 @@ pub(crate) fn reduced(job: Job) -> Turn
 }
 
 // The operator, or the reduction's where the operator's boxes are large and the reduction's smaller.
-pub fn chosen(job: Job, g: Turn) -> Turn
+pub fn chosen(job: Job, g: Invertible) -> Invertible
     requires { ⌜ (acceptedJob job ≡ true) × Undoing g ⌝ }
     ensures { λ r. ⌜ Undoing r ⌝ }
 {
@@ -131,7 +131,7 @@ pub fn chosen(job: Job, g: Turn) -> Turn
 }
 
 // The operator, or the operator with its two parts exchanged, so that the imaginary part has the fewer pairs: the search goes over them first.
-pub fn oriented(job: Job, g: Turn) -> Turn
+pub fn oriented(job: Job, g: Invertible) -> Invertible
     requires { ⌜ (acceptedJob job ≡ true) × Undoing g ⌝ }
     ensures { λ r. ⌜ Undoing r ⌝ }
 {

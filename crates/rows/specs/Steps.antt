@@ -10,22 +10,22 @@ use Rattle.ring.specs.declared.RootTwo.{RootTwo}
 use Rattle.ring.specs.RootTwo.{_⊞_, _⊟_, _⊠_, neg, conj, num, √2, lambda, ring√, parts, num-parts, product-parts, √2-sq, conj-⊞, conj-⊠, conj-neg, conj-num, conj-√2}
 use Rattle.ring.specs.RootTwo.Order.{nonneg, Nn, nn-by, nn-+, nn-*, nn-num, nn-√2, one⊑√2}
 use Rattle.ring.specs.RootTwo.Power.{turn, turn-zero, turn-suc, turn-num}
-use Rattle.rows.specs.declared.Strip.{Strip}
+use Rattle.rows.specs.declared.Band.{Band}
 use Rattle.rows.specs.Row.{at, above, below}
 
 -- lo ≤ m·z ≤ hi
-abbrev pub meets : Strip → RootTwo → Bool
+abbrev pub meets : Band → RootTwo → Bool
 meets s z = above s z && below s z
 
 -- the line problem over strips: z in the first and z• in the second
-abbrev pub solved : Strip → Strip → RootTwo → Bool
+abbrev pub solved : Band → Band → RootTwo → Bool
 solved s t z = meets s z && meets t (conj z)
 
 -- ---- the shift: I − α₀ and J − α₀•
-abbrev pub shiftOf : Strip → RootTwo → Strip
+abbrev pub shiftOf : Band → RootTwo → Band
 shiftOf s w = record { m = s .m; lo = s .lo ⊟ num (s .m) ⊠ w; hi = s .hi ⊟ num (s .m) ⊠ w }
 
-meets-shift : (s : Strip) (w z : RootTwo) → meets s z ≡ meets (shiftOf s w) (z ⊟ w)
+meets-shift : (s : Band) (w z : RootTwo) → meets s z ≡ meets (shiftOf s w) (z ⊟ w)
 meets-shift s w z = ap₂ _&&_ (ap nonneg (low (num (s .m)) z w (s .lo))) (ap nonneg (high (num (s .m)) z w (s .hi)))
   where
     low : (m z w l : RootTwo) → m ⊠ z ⊟ l ≡ m ⊠ (z ⊟ w) ⊟ (l ⊟ m ⊠ w)
@@ -38,7 +38,7 @@ pub conj-⊟ : (z w : RootTwo) → conj (z ⊟ w) ≡ conj z ⊟ conj w
 conj-⊟ z w = conj-⊞ z (neg w) ∙ ap (λ t. conj z ⊞ t) (conj-neg w)
 
 -- a pair solves the problem if and only if the pair less α₀ solves the shifted one, for every α₀
-pub shift-holds : (s t : Strip) (α₀ z : RootTwo) → solved s t z ≡ solved (shiftOf s α₀) (shiftOf t (conj α₀)) (z ⊟ α₀)
+pub shift-holds : (s t : Band) (α₀ z : RootTwo) → solved s t z ≡ solved (shiftOf s α₀) (shiftOf t (conj α₀)) (z ⊟ α₀)
 shift-holds s t w z = ap₂ _&&_ (meets-shift s w z) (meets-shift t (conj w) (conj z) ∙ ap (meets (shiftOf t (conj w))) (sym (conj-⊟ z w)))
 
 -- ---- factors with an inverse, both not negative, keep the sign
@@ -68,13 +68,13 @@ sign-same : {u v : RootTwo} → Inverse u v → (x : RootTwo) → nonneg x ≡ n
 sign-same {u} {v} e x = same (nonneg x) (nonneg (u ⊠ x)) (λ h. nn-* (e .nn) (record { nn = h }) .nn) (λ h. nn-by (undo e x) (nn-* (e .inverse-nn) (record { nn = h })) .nn)
 
 -- ---- strips times a number; a negative one exchanges the ends
-abbrev pub timesOf : Strip → RootTwo → Strip
+abbrev pub timesOf : Band → RootTwo → Band
 timesOf s u = record { m = s .m; lo = u ⊠ s .lo; hi = u ⊠ s .hi }
 
-abbrev pub exchanged : Strip → Strip
+abbrev pub exchanged : Band → Band
 exchanged s = record { m = s .m; lo = s .hi; hi = s .lo }
 
-module _ (s : Strip) {u v : RootTwo} (e : Inverse u v) (z : RootTwo) where
+module _ (s : Band) {u v : RootTwo} (e : Inverse u v) (z : RootTwo) where
   pub meets-times : meets s z ≡ meets (timesOf s u) (u ⊠ z)
   meets-times = ap₂ _&&_ (sign-same e _ ∙ ap nonneg (low u (num (s .m)) z (s .lo))) (sign-same e _ ∙ ap nonneg (high u (num (s .m)) z (s .hi)))
     where
@@ -128,7 +128,7 @@ even (pos k) = evenℕ k
 even (negsuc k) = evenℕ (suc k)
 
 -- (λ•)^n J: for odd n the factor is negative, and the ends are exchanged
-abbrev pub conjTimes : Bool → Strip → RootTwo → Strip
+abbrev pub conjTimes : Bool → Band → RootTwo → Band
 conjTimes true t u = timesOf t u
 conjTimes false t u = exchanged (timesOf t u)
 
@@ -165,7 +165,7 @@ turn-signed (suc k) z = turn-suc k z ∙ ap neg (turn-signed k z) ∙ next (even
     next true = refl
     next false = by-ring ring√ (z ∷ []) (search poly depth 20) refl
 
-module _ {u v : RootTwo} (e : Inverse u v) (turned : conj u ≡ neg v) (s t : Strip) (k : ℕ) (z : RootTwo) where
+module _ {u v : RootTwo} (e : Inverse u v) (turned : conj u ≡ neg v) (s t : Band) (k : ℕ) (z : RootTwo) where
   conj-power : (b : Bool) → conj (power u k) ≡ signed b (power v k) → meets t (conj z) ≡ meets (conjTimes b t (conj (power u k))) (conj (power u k ⊠ z))
   conj-power true f = meets-times t (inverse-sym (power-inverse e k)) (conj z) ∙ ap₂ (λ x y. meets (timesOf t x) y) (sym f) (ap (λ x. x ⊠ conj z) (sym f) ∙ sym (conj-⊠ (power u k) z))
   conj-power false f = meets-turned t (inverse-sym (power-inverse e k)) (conj z) ∙ ap₂ (λ x y. meets (exchanged (timesOf t x)) y) (sym f) (ap (λ x. x ⊠ conj z) (sym f) ∙ sym (conj-⊠ (power u k) z))
@@ -192,7 +192,7 @@ mu-conj = conj-⊟ √2 (num (pos 1)) ∙ ap₂ _⊟_ conj-√2 (conj-num (pos 1
     step r = by-ring ring√ (r ∷ []) (search poly depth 30) refl
 
 -- a pair solves the problem if and only if the pair times λ^n solves the scaled one, I' = λ^n I and J' = (λ•)^n J, for every n, negative ones too
-pub scale-holds : (s t : Strip) (n : ℤ) (z : RootTwo) → solved s t z ≡ solved (timesOf s (λ^ n)) (conjTimes (even n) t (conj (λ^ n))) (λ^ n ⊠ z)
+pub scale-holds : (s t : Band) (n : ℤ) (z : RootTwo) → solved s t z ≡ solved (timesOf s (λ^ n)) (conjTimes (even n) t (conj (λ^ n))) (λ^ n ⊠ z)
 scale-holds s t (pos k) z = power-holds λ-inverse λ-conj s t k z
 scale-holds s t (negsuc k) z = power-holds (inverse-sym λ-inverse) mu-conj s t (suc k) z
 
@@ -212,7 +212,7 @@ pub even-unit : {u : RootTwo} → Even u → Inverse u (conj u)
 even-unit e = subst (λ x. Inverse x (conj x)) (sym (e .is)) (even-inverse (e .n) (e .parity))
 
 -- the law of the scaling where the power is even
-pub scale-even : (s t : Strip) (u z : RootTwo) → Even u → solved s t z ≡ solved (timesOf s u) (timesOf t (conj u)) (u ⊠ z)
+pub scale-even : (s t : Band) (u z : RootTwo) → Even u → solved s t z ≡ solved (timesOf s u) (timesOf t (conj u)) (u ⊠ z)
 scale-even s t u z e =
     scale-holds s t (e .n) z ∙ ap (λ b. solved (timesOf s (λ^ (e .n))) (conjTimes b t (conj (λ^ (e .n)))) (λ^ (e .n) ⊠ z)) (e .parity)
     ∙ ap (λ x. solved (timesOf s x) (timesOf t (conj x)) (x ⊠ z)) (sym (e .is))

@@ -10,14 +10,14 @@ use ring::exact::is_nonneg;
 use ring::exact::offset;
 
 // lo ≤ m·z ≤ hi.
-pub struct Strip {
+pub struct Band {
     pub m: i64,
     pub lo: RootTwo,
     pub hi: RootTwo,
 }
 
 // Whether lo ≤ m·z.
-fn above(s: Strip, z: RootTwo) -> bool
+fn above(s: Band, z: RootTwo) -> bool
     requires { ⌜ Small s × Sized (2 ^ 41) (2 ^ 41) z ⌝ }
     ensures { λ r. ⌜ r ≡ above s z ⌝ }
 {
@@ -25,7 +25,7 @@ fn above(s: Strip, z: RootTwo) -> bool
 }
 
 // Whether m·z ≤ hi.
-pub fn below(s: Strip, z: RootTwo) -> bool
+pub fn below(s: Band, z: RootTwo) -> bool
     requires { ⌜ Small s × Sized (2 ^ 41) (2 ^ 41) z ⌝ }
     ensures { λ r. ⌜ r ≡ below s z ⌝ }
 {
@@ -33,7 +33,7 @@ pub fn below(s: Strip, z: RootTwo) -> bool
 }
 
 // Whether z is not below the one strip, and w not above the other.
-fn bounded(s: Strip, t: Strip, z: RootTwo, w: RootTwo) -> bool
+fn bounded(s: Band, t: Band, z: RootTwo, w: RootTwo) -> bool
     requires { ⌜ Small s × Small t × Sized (2 ^ 41) (2 ^ 41) z × Sized (2 ^ 41) (2 ^ 41) w ⌝ }
     ensures { λ r. ⌜ r ≡ bounded s t z w ⌝ }
 {
@@ -63,7 +63,7 @@ pub fn pair(h: u64, x: u64, y: u64) -> RootTwo
 }
 
 // Whether the digits x and y meet the bounds that a larger y meets as well.
-pub fn lower(first: Strip, second: Strip, h: u64, x: u64, y: u64) -> bool
+pub fn lower(first: Band, second: Band, h: u64, x: u64, y: u64) -> bool
     requires { ⌜ Near first second h x y ⌝ }
     ensures { λ r. ⌜ r ≡ lower first second (coordinate h x) (coordinate h y) ⌝ }
 {
@@ -72,7 +72,7 @@ pub fn lower(first: Strip, second: Strip, h: u64, x: u64, y: u64) -> bool
 }
 
 // Whether they meet the other bounds.
-pub fn upper(first: Strip, second: Strip, h: u64, x: u64, y: u64) -> bool
+pub fn upper(first: Band, second: Band, h: u64, x: u64, y: u64) -> bool
     requires { ⌜ Near first second h x y ⌝ }
     ensures { λ r. ⌜ r ≡ upper first second (coordinate h x) (coordinate h y) ⌝ }
 {
@@ -81,7 +81,7 @@ pub fn upper(first: Strip, second: Strip, h: u64, x: u64, y: u64) -> bool
 }
 
 // The least digit from y on at which the lower bounds hold, or top where there is none below top.
-pub fn least(first: Strip, second: Strip, h: u64, x: u64, y: u64, top: u64) -> u64
+pub fn least(first: Band, second: Band, h: u64, x: u64, y: u64, top: u64) -> u64
     requires { ⌜ Near first second h x top × (y ≤ top) ⌝ }
     ensures { λ r. ⌜ Least (λ (t : ℕ). lower first second (coordinate h x) (coordinate h t)) y top r ⌝ }
 {
@@ -99,7 +99,7 @@ pub fn least(first: Strip, second: Strip, h: u64, x: u64, y: u64, top: u64) -> u
 }
 
 // The first digit t with lo ≤ m·(t − h), or top, by bisection.
-pub fn first(s: Strip, h: u64, top: u64) -> u64
+pub fn first(s: Band, h: u64, top: u64) -> u64
     requires { ⌜ Small s × (h ≤ 2 ^ 40) × (top ≤ 2 ^ 40) ⌝ }
     ensures { λ r. ⌜ First h top s r ⌝ }
 {

@@ -18,7 +18,7 @@ use Rattle.ring.specs.RootTwo.Order.{Nn, nn-by, nn-cancel, one⊑√2}
 use Rattle.ring.specs.RootTwo.Power.{√2^, √2^-suc, √2^-nn, power-even, power-odd, turn, turn-zero, turn-suc, turn-two}
 use Rattle.ring.specs.Point.{√2x, √2y, conjω, √2x-conj, √2y-conj}
 use Rattle.ring.specs.RootTwo.Sized.{Sized, product-sizes, product-sized, neg-size}
-use Rattle.rows.specs.declared.Strip.{Strip}
+use Rattle.rows.specs.declared.Band.{Band}
 use Rattle.rows.specs.Row.{above, below}
 use Rattle.region.specs.declared.Region.{Region}
 use Rattle.region.specs.declared.Job.{Job}
@@ -32,7 +32,7 @@ use Rattle.strips.specs.Reach.{reachSize, Reaches}
 abbrev pub endSize : ℕ
 endSize = 2 ^ 37
 
-pub record Ends (s : Strip) : Type 0 where
+pub record Ends (s : Band) : Type 0 where
   pub one : pos 1 ≼ s .m
   pub scale : natAbs (s .m) ≤ 100
   pub lo : Sized endSize endSize (s .lo)
@@ -48,7 +48,7 @@ power-size k x a h s = elim (eq-zero-or-pos (k % 2)) [
     by m n y w l = product-sized (a * 1024) x y (product-sizes (a * 1024) x y a a m n s w l (omega arith))
 
 -- ---- one region
-pub record Strip-of (r : Region) (k : ℕ) (u v : RootTwo) (s : Strip) : Type 0 where
+pub record Strip-of (r : Region) (k : ℕ) (u v : RootTwo) (s : Band) : Type 0 where
   pub ends : Ends s
   pub follows : (X Y z : RootTwo) → holds r (√2^ (suc k)) X Y ≡ true → √2 ⊠ z ≡ u ⊠ X ⊞ v ⊠ Y → (above s z ≡ true) × (below s z ≡ true)
 
@@ -87,7 +87,7 @@ strip-of r k u v h l n kk a b =
     low2 n l w z t = by-ring ring√ (n ∷ l ∷ w ∷ z ∷ t ∷ []) (search poly depth 30) refl
 
 -- ---- both regions: B speaks of the conjugate, with the direction turned
-pub record Meets (s t : Strip) (z : RootTwo) : Type 0 where
+pub record Meets (s t : Band) (z : RootTwo) : Type 0 where
   pub lo : above s z ≡ true
   pub hi : below s z ≡ true
   pub conj-lo : above t (conj z) ≡ true
@@ -129,7 +129,7 @@ conjugate k u v z w e =
     spread : (u v x y : RootTwo) → neg (u ⊠ x ⊞ v ⊠ y) ≡ u ⊠ neg x ⊞ v ⊠ neg y
     spread u v x y = by-ring ring√ (u ∷ v ∷ x ∷ y ∷ []) (search poly depth 30) refl
 
-pub strips-of : (j : Job) (u v : RootTwo) (s t : Strip) → Strip-of (j .a) (j .k) u v s → Strip-of (j .b) (j .k) (turn (j .k) (conj u)) (turn (j .k) (conj v)) t → Strips-of j u v (record { first = s; second = t })
+pub strips-of : (j : Job) (u v : RootTwo) (s t : Band) → Strip-of (j .a) (j .k) u v s → Strip-of (j .b) (j .k) (turn (j .k) (conj u)) (turn (j .k) (conj v)) t → Strips-of j u v (record { first = s; second = t })
 strips-of j u v s t a b =
     record {
       first = a .ends;

@@ -5,7 +5,7 @@ use Prim.Native.Nat.{_^_}
 use Rattle.ring.specs.declared.RootTwo.{RootTwo}
 use Rattle.ring.specs.RootTwo.{_⊠_, conj}
 use Rattle.ring.specs.RootTwo.Sized.{Sized, conj-size}
-use Rattle.rows.specs.declared.Strip.{Strip}
+use Rattle.rows.specs.declared.Band.{Band}
 use Rattle.rows.specs.Both.{both-true}
 use Rattle.rows.specs.Steps.{solved, timesOf, Even, even-conj, scale-even}
 use Rattle.strips.specs.declared.Strips.{Strips}
@@ -24,10 +24,10 @@ abbrev pub scaledOf : Strips → RootTwo → Strips
 scaledOf s u = record { first = timesOf (s .first) u; second = timesOf (s .second) (conj u) }
 
 -- a number meets two strips if and only if it solves their line problem
-meets-solved : (s t : Strip) (z : RootTwo) → Meets s t z → solved s t z ≡ true
+meets-solved : (s t : Band) (z : RootTwo) → Meets s t z → solved s t z ≡ true
 meets-solved s t z m = rw (m .lo, m .hi, m .conj-lo, m .conj-hi) refl
 
-solved-meets : (s t : Strip) (z : RootTwo) → solved s t z ≡ true → Meets s t z
+solved-meets : (s t : Band) (z : RootTwo) → solved s t z ≡ true → Meets s t z
 solved-meets s t z e =
     let (f, g) = both-true _ _ e in
     let (a, b) = both-true _ _ f in

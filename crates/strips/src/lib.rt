@@ -20,22 +20,22 @@ use ring::exact::conjugate;
 use ring::exact::opposite;
 use ring::exact::power;
 use ring::exact::product;
-use rows::Strip;
+use rows::Band;
 
 // Of ζ and of its conjugate.
 pub struct Strips {
-    pub first: Strip,
-    pub second: Strip,
+    pub first: Band,
+    pub second: Band,
 }
 
-fn strip(region: Region, k: u8, u: RootTwo, v: RootTwo) -> Strip
+fn strip(region: Region, k: u8, u: RootTwo, v: RootTwo) -> Band
     requires { ⌜ (accepted region ≡ true) × (k ≤ topScale) × Direction u v ⌝ }
     ensures { λ r. ⌜ Strip-of region k u v r ⌝ }
 {
     let w = power(k);
     let h = over(region, u, v);
     let l = over(region, opposite(u), opposite(v));
-    Strip {
+    Band {
         m: region.scale() as i64,
         lo: opposite(product(l, w)),
         hi: product(h, w),

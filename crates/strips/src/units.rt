@@ -11,7 +11,7 @@ use ring::RootTwo;
 use ring::exact::combined;
 use ring::exact::conjugate;
 use ring::exact::product;
-use rows::Strip;
+use rows::Band;
 
 // The greatest part of an end.
 const LARGEST: u64 = 137438953472;
@@ -50,7 +50,7 @@ fn steps(a: u64, b: u64) -> u64 {
 }
 
 // About 1024 times hi − lo, over m.
-pub fn width(s: Strip) -> u64
+pub fn width(s: Band) -> u64
     requires { ⌜ Ends s ⌝ }
 {
     let d = combined(1, s.hi, -1, s.lo);
@@ -71,11 +71,11 @@ pub fn balance(s: Strips) -> RootTwo
     }
 }
 
-fn times(s: Strip, u: RootTwo) -> Strip
+fn times(s: Band, u: RootTwo) -> Band
     requires { ⌜ Ends s × Unit u ⌝ }
     ensures { λ r. ⌜ r ≡ timesOf s u ⌝ }
 {
-    Strip {
+    Band {
         m: s.m,
         lo: product(u, s.lo),
         hi: product(u, s.hi),
@@ -105,7 +105,7 @@ fn is_short(x: RootTwo) -> bool
     }
 }
 
-fn has_short_ends(s: Strip) -> bool
+fn has_short_ends(s: Band) -> bool
     ensures { λ r. ⌜ (r ≡ true → Sized endSize endSize (s .lo) × Sized endSize endSize (s .hi)) ⌝ }
 {
     if is_short(s.lo) {

@@ -4,7 +4,7 @@ use mathlib.Core.Logic.{⊎-elim}
 use Prim.Native.Nat.{ℕ, _+_, _-_, _≤_, _<_}
 use native.Mathlib.Omega.{arith}
 use Rattle.ring.specs.declared.RootTwo.{RootTwo}
-use Rattle.question.specs.declared.lines.Line.{Line}
+use Rattle.question.specs.declared.lines.Problem.{Problem}
 use Rattle.question.specs.Rows.{top}
 use Rattle.question.specs.Lines.{Searchable}
 use Rattle.question.specs.Nest.{Rows, rows-start, row-start, row-done, row-all, rows-more}
@@ -22,7 +22,7 @@ abbrev μ-loop : tie.MeasureT-loop
 μ-loop l end t₀ t = end - t
 
 module _ (s : tie.Start Inv-loop μ-loop) where
-  abbrev l : Line
+  abbrev l : Problem
   l = s .args .l
 
   searchable : Searchable l

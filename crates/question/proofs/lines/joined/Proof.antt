@@ -7,17 +7,17 @@ use mir.Val.{SFits}
 use mir.Facts.{toZ-ofZ}
 use Rattle.integers.specs.Size.{size-*≤, size→fits}
 use Rattle.ring.specs.RootTwo.Sized.{room}
-use Rattle.rows.specs.declared.Strip.{Strip}
+use Rattle.rows.specs.declared.Band.{Band}
 use Rattle.rows.specs.Row.{strip-ext}
 use Rattle.strips.specs.Strips.{endSize}
 use Rattle.question.proofs.lines.joined.Statement.{statement}
 use Rattle.question.proofs.lines.joined.Tie as tie
 
 module _ (c : tie.Start) where
-  abbrev s : Strip
+  abbrev s : Band
   s = c .args .s
 
-  abbrev t : Strip
+  abbrev t : Band
   t = c .args .t
 
   s-fits : SFits w64 (s .m)

@@ -7,7 +7,7 @@ use mir.Facts.{toZ-ofZ}
 use borrow.Author.Needs.{needs}
 use borrow.Author.Tests.{not-true}
 use Rattle.integers.specs.Size.{size→fits}
-use Rattle.rows.specs.declared.Strip.{Strip}
+use Rattle.rows.specs.declared.Band.{Band}
 use Rattle.rows.specs.Row.{Small, First}
 use Rattle.question.specs.Rows.{middle, top, joinedOf, joined-small}
 use Rattle.question.specs.Lines.{Line-with, line-with, line-empty}
@@ -46,7 +46,7 @@ module _ (c : tie.After-joined) where
   abbrev s : tie.Start
   s = c .before .before .before .before .before .before .before
 
-  abbrev j : Strip
+  abbrev j : Band
   j = c .joined .result
 
   j-is : j ≡ joinedOf (s .args .s .first) (s .args .s .second)
@@ -58,7 +58,7 @@ module _ (c : tie.After-joined) where
   m-is : toZ w64 (ofZ w64 (j .m)) ≡ j .m
   m-is = toZ-ofZ (size→fits (omega (arith, j-small .scale)))
 
-  abbrev end : Strip → Strip
+  abbrev end : Band → Band
   end j = record { m = j .m; lo = j .hi; hi = j .hi }
 
   end-small : Small (end j)

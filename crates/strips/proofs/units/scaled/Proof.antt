@@ -2,7 +2,7 @@ use mathlib.Core.Path.{sym, _∙_, ap, ap₂, subst}
 use Prim.Native.Nat.{_^_}
 use native.Mathlib.Omega.{arith}
 use Rattle.ring.specs.RootTwo.Sized.{sized-more}
-use Rattle.rows.specs.declared.Strip.{Strip}
+use Rattle.rows.specs.declared.Band.{Band}
 use Rattle.rows.specs.Steps.{timesOf}
 use Rattle.strips.specs.Units.{Unit, unit-conj}
 use Rattle.strips.proofs.units.scaled.Statement.{statement}
@@ -22,7 +22,7 @@ times-requires-2 c κs =
 returns : tie.Need-returns
 returns c =
     let s = c .before .before .before .before .before in
-    ap₂ (λ (x y : Strip). record { first = x; second = y }) (c .before .before .times .ensures) (c .times2 .ensures ∙ ap (timesOf (s .args .s .second)) (c .before .conjugate .ensures))
+    ap₂ (λ (x y : Band). record { first = x; second = y }) (c .before .before .times .ensures) (c .times2 .ensures ∙ ap (timesOf (s .args .s .second)) (c .before .conjugate .ensures))
 
 pub scaled-spec : {M : Type 1} → statement M
 scaled-spec = tie.close (tie.spec times-requires conjugate-requires times-requires-2 returns)
