@@ -18,11 +18,16 @@ use reduction::usable;
 use region::Job;
 use walk::Look;
 
+// The fuel of a brief look, and of a longer one.
+const BRIEF: u64 = 32768;
+
+const LONGER: u64 = 524288;
+
 // Whether a job's list has a point: by a brief look in its own coordinates, or else searched in the coordinates of an operator.
 pub fn has_solution(job: Job, caller: Operator) -> bool
     ensures { λ r. ⌜ r ≡ not (isNil (full job)) ⌝ }
 {
-    let k = walk::glance(job);
+    let k = walk::glance(job, BRIEF);
     match k {
         Look::Found => true,
         Look::Nothing(_) => false,
@@ -46,7 +51,44 @@ fn searched(job: Job, caller: Operator) -> bool
     if b.is_void() {
         return false;
     }
-    search::search(job, reduction::oriented(job, in_force(job, caller)))
+    settled(job, reduction::oriented(job, in_force(job, caller)))
+}
+
+// Whether the boxes are large and a region is a slice, which can be much thinner than they are.
+fn is_loose(job: Job, g: Invertible) -> bool
+    requires { ⌜ (acceptedJob job ≡ true) × Undoing g ⌝ }
+{
+    let a = job.a;
+    let b = job.b;
+    if a.radius() == 0 {
+        if b.radius() == 0 {
+            return false;
+        }
+    }
+    reduction::is_large(job, g)
+}
+
+// By the operator's boxes, or by a longer look first.
+fn settled(job: Job, g: Invertible) -> bool
+    requires { ⌜ (acceptedJob job ≡ true) × Undoing g ⌝ }
+    ensures { λ r. ⌜ r ≡ not (isNil (full job)) ⌝ }
+{
+    if is_loose(job, g) {
+        return looked(job, g);
+    }
+    search::search(job, g)
+}
+
+fn looked(job: Job, g: Invertible) -> bool
+    requires { ⌜ (acceptedJob job ≡ true) × Undoing g ⌝ }
+    ensures { λ r. ⌜ r ≡ not (isNil (full job)) ⌝ }
+{
+    let k = walk::glance(job, LONGER);
+    match k {
+        Look::Found => true,
+        Look::Nothing(_) => false,
+        Look::Tired => search::search(job, g),
+    }
 }
 
 fn in_force(job: Job, caller: Operator) -> Invertible

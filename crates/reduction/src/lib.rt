@@ -13,6 +13,7 @@ use operator::Operator;
 pub use parts::imaginary_strips;
 pub use parts::real_strips;
 pub use reduce::chosen;
+pub use reduce::is_large;
 pub use reduce::oriented;
 use region::Job;
 

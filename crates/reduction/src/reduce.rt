@@ -130,6 +130,14 @@ pub fn chosen(job: Job, g: Invertible) -> Invertible
     r.turn
 }
 
+// Whether an operator's boxes are large: nothing rests on it.
+pub fn is_large(job: Job, g: Invertible) -> bool
+    requires { ⌜ (acceptedJob job ≡ true) × Undoing g ⌝ }
+{
+    let m = measured(job, g);
+    LARGE <= m.size
+}
+
 // The operator, or the operator with its two parts exchanged, so that the imaginary part has the fewer pairs: the search goes over them first.
 pub fn oriented(job: Job, g: Invertible) -> Invertible
     requires { ⌜ (acceptedJob job ≡ true) × Undoing g ⌝ }

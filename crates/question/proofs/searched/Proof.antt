@@ -32,8 +32,8 @@ oriented-requires c κs =
     let e = c .before .before .before .before .before in
     (sym (e .before .is-accepted .ensures) ∙ not-false _ (e .if1 .left), c .in-force .ensures)
 
-search-requires : tie.Need-search-requires
-search-requires c κs =
+settled-requires : tie.Need-settled-requires
+settled-requires c κs =
     let e = c .before .before .before .before .before .before in
     (sym (e .before .is-accepted .ensures) ∙ not-false _ (e .if1 .left), c .oriented .ensures)
 
@@ -52,5 +52,5 @@ searched-spec =
     returns-3
     in-force-requires
     oriented-requires
-    search-requires
+    settled-requires
     returns-4)
