@@ -1,6 +1,6 @@
 -- Kinds of records, turns and refusals: SPEC, "Records" and "Refusals".
 use mathlib.Core.Path.{_≡_, refl}
-use mathlib.Core.Bool.{Bool, true, false}
+use mathlib.Core.Bool.{Bool, true, false, cond}
 use Prim.Native.Nat.{ℕ}
 use native.Mathlib.Omega.{arith}
 use lib.Dec.{eqb}
@@ -30,12 +30,8 @@ number NoDirection = 11
 number NoPattern = 14
 
 -- ---- kinds, with the length of the body
-abbrev pub pickKind : Bool → Kind → Kind → Kind
-pickKind true x y = x
-pickKind false x y = y
-
 unfoldable pub kindOf : ℕ → Kind
-kindOf b = pickKind (eqb b 1) K.Scale (pickKind (eqb b 2) K.Rectangle (pickKind (eqb b 3) K.Ellipse (pickKind (eqb b 4) K.Operator (pickKind (eqb b 5) K.Slice (pickKind (eqb b 6) K.Selection K.Unknown)))))
+kindOf b = cond (eqb b 1) K.Scale (cond (eqb b 2) K.Rectangle (cond (eqb b 3) K.Ellipse (cond (eqb b 4) K.Operator (cond (eqb b 5) K.Slice (cond (eqb b 6) K.Selection K.Unknown)))))
 
 pub kind-1 : (b : ℕ) → b ≡ 1 → kindOf b ≡ K.Scale
 unfolding kindOf

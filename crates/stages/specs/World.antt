@@ -1,8 +1,8 @@
 -- The world of the sessions: the records, jobs, solutions and operators of SPEC, as `calls` asks for them.
-use Rattle.kinds.specs.Kinds.{number, kindOf, pickKind, admissionOf, kind-4}
+use Rattle.kinds.specs.Kinds.{number, kindOf, admissionOf, kind-4}
 use Rattle.record.specs.Record.{readingOf, kindReading}
 use mathlib.Core.Path.{_≡_, refl, subst⁻¹}
-use mathlib.Core.Bool.{Bool, true, false, false≢true}
+use mathlib.Core.Bool.{Bool, true, false, false≢true, cond}
 use mathlib.Core.List.{List, [], _∷_}
 use mathlib.Core.Option.{Option}
 use mathlib.Core.Option as O
@@ -119,7 +119,7 @@ operator-refuses [] h = (1, refl)
 operator-refuses (k ∷ b) h = rw h (go (eqb k 1) (eqb k 2) (eqb k 3) (eqb k 5) (eqb k 6))
   where
     go : (x y z w s : Bool)
-        → (r : ℕ) × (operatorReading (kindReading (pickKind x K.Scale (pickKind y K.Rectangle (pickKind z K.Ellipse (pickKind w K.Slice (pickKind s K.Selection K.Unknown))))) b T.Operators) ≡ refuse r)
+        → (r : ℕ) × (operatorReading (kindReading (cond x K.Scale (cond y K.Rectangle (cond z K.Ellipse (cond w K.Slice (cond s K.Selection K.Unknown))))) b T.Operators) ≡ refuse r)
     go true y z w s = (8, refl)
     go false true z w s = (8, refl)
     go false false true w s = (8, refl)
