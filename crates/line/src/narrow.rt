@@ -15,10 +15,10 @@ use crate::Interval;
 use crate::search;
 use crate::steps;
 use ring::RootTwo;
-use ring::exact::combined;
-use ring::exact::conjugate;
-use ring::exact::product;
 use rows::Band;
+use surds::combined;
+use surds::conjugate;
+use surds::product;
 
 // The digit of 0 in the scaled problem, and the number of digits.
 const HALF: u64 = 4294967296;

@@ -9,10 +9,10 @@ ghost use Rattle.rows.specs.Steps.{shiftOf, timesOf, Even};
 ghost use Rattle.line.specs.Narrow.{endOf};
 ghost use Rattle.line.specs.Sized.{Sized, Ends, whole, shifted, scaled, unitSize};
 use ring::RootTwo;
-use ring::exact::combined;
-use ring::exact::is_nonneg;
-use ring::exact::product;
 use rows::Band;
+use surds::combined;
+use surds::is_nonneg;
+use surds::product;
 
 // Step 2: I − α₀, or J − α₀•.
 pub(crate) fn shift(s: Band, w: RootTwo) -> Band

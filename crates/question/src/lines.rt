@@ -10,13 +10,13 @@ ghost use Rattle.strips.specs.Strips.{Ends};
 ghost use Rattle.question.specs.Rows.{middle, top, pairAt, joinedOf};
 ghost use Rattle.question.specs.Lines.{Searchable, Pairless, rowless, Line-with, Line-of};
 use ring::RootTwo;
-use ring::exact::combined;
-use ring::exact::conjugate;
-use ring::exact::is_nonneg;
-use ring::exact::product;
 use rows::Band;
 use strips::Strips;
 use strips::units;
+use surds::combined;
+use surds::conjugate;
+use surds::is_nonneg;
+use surds::product;
 
 // The digit of 0, and the number of digits.
 pub(crate) const HALF: u64 = 549755813888;

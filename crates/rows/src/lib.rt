@@ -5,9 +5,9 @@ ghost use lib.IntN.{natAbs};
 ghost use Rattle.ring.specs.RootTwo.Sized.{Sized};
 ghost use Rattle.rows.specs.Row.{coordinate, pairAt, above, below, bounded, lower, upper, Small, Near, Least, First};
 use ring::RootTwo;
-use ring::exact::conjugate;
-use ring::exact::is_nonneg;
-use ring::exact::offset;
+use surds::conjugate;
+use surds::is_nonneg;
+use surds::offset;
 
 // lo ≤ m·z ≤ hi.
 pub struct Band {

@@ -16,7 +16,7 @@ use wording::Pair;
 pub fn sign(line: &[u8], from: usize) -> Line {
     let n = wording::pair_from(line, from);
     match n {
-        Pair::Both(p, q) => Line::Good(Value::One(number(ring::wide_sign_of(p, q)))),
+        Pair::Both(p, q) => Line::Good(Value::One(number(signs::wide_sign_of(p, q)))),
         Pair::Bad => Line::Bad,
     }
 }

@@ -16,11 +16,11 @@ use reach::over;
 use region::Job;
 use region::Region;
 use ring::RootTwo;
-use ring::exact::conjugate;
-use ring::exact::opposite;
-use ring::exact::power;
-use ring::exact::product;
 use rows::Band;
+use surds::conjugate;
+use surds::opposite;
+use surds::power;
+use surds::product;
 
 // Of ζ and of its conjugate.
 pub struct Strips {

@@ -16,9 +16,9 @@ use region::Enclosure;
 use region::Rectangle;
 use region::Region;
 use ring::RootTwo;
-use ring::exact::combined;
-use ring::exact::is_nonneg;
-use ring::exact::product;
+use surds::combined;
+use surds::is_nonneg;
+use surds::product;
 
 // The end of lo..hi at which u·z is greatest.
 fn far_end(u: RootTwo, lo: i32, hi: i32) -> i64

@@ -16,10 +16,10 @@ use crate::units;
 use lengths::near;
 use region::Region;
 use ring::RootTwo;
-use ring::exact::combined;
-use ring::exact::conjugate;
-use ring::exact::is_nonneg;
-use ring::exact::product;
+use surds::combined;
+use surds::conjugate;
+use surds::is_nonneg;
+use surds::product;
 
 // A whole number near x.
 fn rounded(x: RootTwo) -> i64

@@ -8,10 +8,10 @@ ghost use Rattle.strips.specs.Units.{Unit, scaledOf};
 use crate::Strips;
 use crate::reach::near_root;
 use ring::RootTwo;
-use ring::exact::combined;
-use ring::exact::conjugate;
-use ring::exact::product;
 use rows::Band;
+use surds::combined;
+use surds::conjugate;
+use surds::product;
 
 // The greatest part of an end.
 const LARGEST: u64 = 137438953472;

@@ -5,7 +5,7 @@ use table_rows::Row;
 // Whether the sign of p + q√2 is the row's.
 pub fn right(row: Row) -> bool {
     let n = row.numbers;
-    row.count == 3 && number(ring::sign_of(n[0], n[1])) == n[2]
+    row.count == 3 && number(signs::sign_of(n[0], n[1])) == n[2]
 }
 
 fn number(s: Sign) -> i64 {
