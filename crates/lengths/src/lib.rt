@@ -1,7 +1,3 @@
-// Whole numbers of the plane, of which no region is known: roots, products, and rough numbers for guesses.
-pub mod fraction;
-pub mod near;
+// Whole numbers of the plane, of which no region is known: products, lengths and roots rounded up, and the share of a half plane.
 pub mod products;
 pub mod roots;
-pub mod rough;
-pub mod tangent;

@@ -7,6 +7,12 @@ ghost use Rattle.lengths.specs.Least.{maxZ};
 ghost use Rattle.lengths.specs.Products.{adjugate, touches};
 ghost use Rattle.lengths.specs.Rounded.{Quotient};
 
+// A quotient's limit, 2³¹.
+const LIMIT: i64 = 2147483648;
+
+// No quotient is less.
+const LEAST: i64 = -LIMIT;
+
 // u·z.
 pub fn product(u: i16, z: i32) -> i64
     ensures { λ r. ⌜ r ≡ u *ℤ z ⌝ }
@@ -72,22 +78,6 @@ pub fn touches(n: u16, x: i16, y: i16, w: i32) -> bool
     m * m * f <= h * h
 }
 
-// |u·y − v·x|.
-pub fn cross(u: i16, v: i16, x: i16, y: i16) -> u64
-    ensures { λ r. ⌜ r ≤ 2 ^ 31 ⌝ }
-{
-    integers::abs(product(u, y as i32) - product(v, x as i32))
-}
-
-// The larger of two sizes.
-pub fn larger(x: i16, y: i16) -> u64
-    ensures { λ r. ⌜ r ≤ 32768 ⌝ }
-{
-    let a = integers::abs(x as i64);
-    let b = integers::abs(y as i64);
-    if a < b { b } else { a }
-}
-
 // n²·t.
 pub fn multiplied(n: u16, t: i64) -> i64
     requires { ⌜ (n ≤ 100) × (natAbs t ≤ 2 ^ 31) ⌝ }
@@ -124,9 +114,9 @@ pub fn quotient(t: i64, q: u64) -> i64
     requires { ⌜ (natAbs t ≤ 2 ^ 62) × (1 ≤ q) × (q ≤ 1000000) ⌝ }
     ensures { λ r. ⌜ Quotient t q r ⌝ }
 {
-    let s = t + 2147483648 * q as i64;
+    let s = t + LIMIT * q as i64;
     if s < 0 {
-        return -2147483648;
+        return LEAST;
     }
-    ((s as u64 + (q - 1)) / q) as i64 - 2147483648
+    ((s as u64 + (q - 1)) / q) as i64 - LIMIT
 }

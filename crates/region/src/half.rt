@@ -9,7 +9,7 @@ ghost use Rattle.region.specs.ReachOver.{topDirection, Bounds};
 ghost use Rattle.region.specs.Slice.{isPoint};
 use crate::Region;
 use crate::Slice;
-use lengths::fraction::at_chord;
+use estimates::fraction::at_chord;
 use lengths::products::along;
 use lengths::products::inner;
 use lengths::products::is_short;

@@ -3,11 +3,11 @@ ghost use Prim.Native.Nat.{_≤_};
 ghost use Rattle.region.specs.Region.{topScale};
 use crate::Region;
 use crate::weight;
-use lengths::near;
-use lengths::near::Signed;
-use lengths::rough;
-use lengths::tangent;
-use lengths::tangent::Normal;
+use estimates::near;
+use estimates::near::Signed;
+use estimates::rough;
+use estimates::tangent;
+use estimates::tangent::Normal;
 
 impl Region {
     // The direction in which the region, turned about 0 if so asked, ends at the height of (s + b√2)/√2^(k+1).

@@ -13,7 +13,7 @@ ghost use Rattle.strips.specs.Reach.{reachSize, Direction, Reaches};
 ghost use Rattle.strips.specs.Sharp.{Near, Either};
 use crate::reach::near_root;
 use crate::units;
-use lengths::near;
+use estimates::near;
 use region::Region;
 use ring::RootTwo;
 use surds::combined;

@@ -12,7 +12,7 @@ use Rattle.integers.specs.Difference.{_≼_}
 use Rattle.integers.specs.Tests.{ltZ-true, ltZ-false}
 use Rattle.integers.specs.Size.{size-+, size--, size-*≤, size→fits}
 use Rattle.lengths.specs.Least.{ceilDiv}
-use Rattle.lengths.specs.Rounded.{quotient-low, quotient-high}
+use Rattle.lengths.specs.Rounded.{limit, quotient-low, quotient-high}
 use Rattle.lengths.proofs.products.quotient.Statement.{statement}
 use Rattle.lengths.proofs.products.quotient.Tie as tie
 
@@ -21,7 +21,7 @@ cast-s c = search needs
 
 module _ (c : tie.Start) where
   abbrev s : ℤ
-  s = c .args .t +ℤ pos 2147483648 *ℤ pos (c .args .q)
+  s = c .args .t +ℤ pos limit *ℤ pos (c .args .q)
 
   q-is : toZ w64 (c .args .q) ≡ pos (c .args .q)
   q-is = toZ-pos w64 (omega (arith, c .pre .2))
@@ -30,15 +30,15 @@ module _ (c : tie.Start) where
   t-is = toZ-ofZ (c .fits .t)
 
   s-size : natAbs s ≤ 2 ^ 62 + 2 ^ 51
-  s-size = omega (arith, c .pre .0, size-+ (c .args .t) (pos 2147483648 *ℤ pos (c .args .q)), size-*≤ (pos 2147483648) (pos (c .args .q)) 2147483648 1000000 (omega arith) (c .pre .2))
+  s-size = omega (arith, c .pre .0, size-+ (c .args .t) (pos limit *ℤ pos (c .args .q)), size-*≤ (pos limit) (pos (c .args .q)) limit 1000000 (omega arith) (c .pre .2))
 
   s-fits : SFits w64 s
   s-fits = size→fits (omega (arith, s-size))
 
-  product-fits : SFits w64 (pos 2147483648 *ℤ pos (c .args .q))
-  product-fits = size→fits (omega (arith, size-*≤ (pos 2147483648) (pos (c .args .q)) 2147483648 1000000 (omega arith) (c .pre .2)))
+  product-fits : SFits w64 (pos limit *ℤ pos (c .args .q))
+  product-fits = size→fits (omega (arith, size-*≤ (pos limit) (pos (c .args .q)) limit 1000000 (omega arith) (c .pre .2)))
 
-  s-is : toZ w64 (ofZ w64 (toZ w64 (ofZ w64 (c .args .t)) +ℤ toZ w64 (ofZ w64 (pos 2147483648 *ℤ toZ w64 (c .args .q))))) ≡ s
+  s-is : toZ w64 (ofZ w64 (toZ w64 (ofZ w64 (c .args .t)) +ℤ toZ w64 (ofZ w64 (pos limit *ℤ toZ w64 (c .args .q))))) ≡ s
   s-is = rw (t-is, q-is, toZ-ofZ product-fits) (toZ-ofZ s-fits)
 
   -- the quotient as a natural number
@@ -51,8 +51,8 @@ module _ (c : tie.Start) where
   d-is : toZ w64 d ≡ pos d
   d-is = toZ-pos w64 (omega (arith, d-size))
 
-  r-fits : SFits w64 (pos d -ℤ pos 2147483648)
-  r-fits = size→fits (omega (arith, size-- (pos d) (pos 2147483648), d-size))
+  r-fits : SFits w64 (pos d -ℤ pos limit)
+  r-fits = size→fits (omega (arith, size-- (pos d) (pos limit), d-size))
 
 mul-s : tie.Need-mul-s
 mul-s c = rw (q-is c) (product-fits c)

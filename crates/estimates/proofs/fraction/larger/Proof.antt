@@ -1,9 +1,9 @@
 use Prim.Native.Nat.{_≤_}
 use borrow.Author.Needs.{needs}
 use Rattle.integers.specs.Size.{fits→size}
 use Rattle.lengths.proofs.Casts.{widen-fits, widened}
-use Rattle.lengths.proofs.products.larger.Statement.{statement}
-use Rattle.lengths.proofs.products.larger.Tie as tie
+use Rattle.estimates.proofs.fraction.larger.Statement.{statement}
+use Rattle.estimates.proofs.fraction.larger.Tie as tie
 
 cast-abs : tie.Need-cast-abs
 cast-abs c = widen-fits tt (c .fits .x)

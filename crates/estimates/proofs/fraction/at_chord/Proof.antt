@@ -4,9 +4,9 @@ use native.Mathlib.Omega.{arith}
 use mir.Syntax.{w64}
 use borrow.Author.Needs.{needs}
 use Rattle.integers.specs.Size.{back}
 use Rattle.lengths.proofs.Casts.{widen-fits, widened}
-use Rattle.lengths.proofs.fraction.at_chord.Statement.{statement}
-use Rattle.lengths.proofs.fraction.at_chord.Tie as tie
+use Rattle.estimates.proofs.fraction.at_chord.Statement.{statement}
+use Rattle.estimates.proofs.fraction.at_chord.Tie as tie
 
 cast-abs : tie.Need-cast-abs
 cast-abs c = widen-fits tt (c .fits .w)

@@ -3,8 +3,8 @@ use native.Mathlib.Omega.{arith}
 use mir.Facts.{toZ-ofZ}
 use Prim.Native.Nat.{_*_, _≤_, _^_}
 use borrow.Author.Needs.{needs}
-use Rattle.lengths.proofs.fraction.multiple.Statement.{statement}
-use Rattle.lengths.proofs.fraction.multiple.Tie as tie
+use Rattle.estimates.proofs.fraction.multiple.Statement.{statement}
+use Rattle.estimates.proofs.fraction.multiple.Tie as tie
 
 mul-if1 : tie.Need-mul-if1
 mul-if1 c = omega (arith, mul-le-mul (c .pre .0) (c .pre .0))

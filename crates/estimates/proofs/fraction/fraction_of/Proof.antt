@@ -2,8 +2,8 @@ use Prim.Native.Nat.{ℕ, _+_, _*_, _/_, _^_, _≤_, _<_}
 use native.Mathlib.Nat.{mul-le-mul, div-lt-iff-lt-mul}
 use native.Mathlib.Omega.{arith}
 use borrow.Author.Needs.{needs}
-use Rattle.lengths.proofs.fraction.fraction_of.Statement.{statement}
-use Rattle.lengths.proofs.fraction.fraction_of.Tie as tie
+use Rattle.estimates.proofs.fraction.fraction_of.Statement.{statement}
+use Rattle.estimates.proofs.fraction.fraction_of.Tie as tie
 
 mul-l : tie.Need-mul-l
 mul-l c = search needs

@@ -7,8 +7,8 @@ use mir.Val.{SFits, toZ, ofZ}
 use mir.Facts.{toZ-ofZ, sfits-widen}
 use borrow.Author.Needs.{needs}
 use Rattle.integers.specs.Size.{size--, size-*≤, size→fits, fits→size, back}
-use Rattle.lengths.proofs.products.cross.Statement.{statement}
-use Rattle.lengths.proofs.products.cross.Tie as tie
+use Rattle.estimates.proofs.fraction.cross.Statement.{statement}
+use Rattle.estimates.proofs.fraction.cross.Tie as tie
 
 cast-product : tie.Need-cast-product
 cast-product c = rw (toZ-ofZ (c .fits .y)) (sfits-widen tt (c .fits .y))

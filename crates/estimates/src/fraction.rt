@@ -1,16 +1,31 @@
 // How often a half plane counts, as a fraction: a guess, of which only sizes are claimed.
 ghost use Prim.Native.Nat.{_^_, _≤_};
 ghost use lib.IntN.{natAbs};
-ghost use Rattle.lengths.specs.Rounded.{Fraction-size};
-use crate::products::cross;
-use crate::products::inner;
-use crate::products::larger;
-use crate::roots::ceil_sqrt;
+ghost use Rattle.estimates.specs.Sizes.{Fraction-size};
+use lengths::products::inner;
+use lengths::products::product;
+use lengths::roots::ceil_sqrt;
 
 // p/q: how often the half plane counts.
 pub struct Fraction {
     pub p: u64,
     pub q: u64,
+}
+
+// |u·y − v·x|.
+fn cross(u: i16, v: i16, x: i16, y: i16) -> u64
+    ensures { λ r. ⌜ r ≤ 2 ^ 31 ⌝ }
+{
+    integers::abs(product(u, y as i32) - product(v, x as i32))
+}
+
+// The larger of two sizes.
+fn larger(x: i16, y: i16) -> u64
+    ensures { λ r. ⌜ r ≤ 32768 ⌝ }
+{
+    let a = integers::abs(x as i64);
+    let b = integers::abs(y as i64);
+    if a < b { b } else { a }
 }
 
 // About a/b.

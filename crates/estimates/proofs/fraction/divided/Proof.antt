@@ -1,7 +1,7 @@
 use native.Mathlib.Nat.{div-le-self}
 use borrow.Author.Needs.{needs}
-use Rattle.lengths.proofs.fraction.divided.Statement.{statement}
-use Rattle.lengths.proofs.fraction.divided.Tie as tie
+use Rattle.estimates.proofs.fraction.divided.Statement.{statement}
+use Rattle.estimates.proofs.fraction.divided.Tie as tie
 
 div-result : tie.Need-div-result
 div-result c = search needs

@@ -1,0 +1,2 @@
+-- What is claimed of the guesses: their sizes.
+pub mod Sizes
