@@ -1,9 +1,8 @@
-// Grid operators: SPEC, "Operators". The test, the image of a point, the matrix, the inverse.
+// Grid operators: SPEC, "Operators". The test, the image of a point, the inverse.
 ghost use mathlib.Core.Path.{_≡_};
 ghost use Prim.Native.Nat.{_≤_};
 ghost use lib.IntN.{natAbs, pos, _*ℤ_};
 ghost use Rattle.operator.specs.Operator.{identity, inRange, evenParity, special, Tests, imageOf, wide};
-ghost use Rattle.operator.specs.Matrix.{matrixOf, productOf, determinantOf};
 ghost use Rattle.operator.specs.Inverse.{adjugate, times, Inverts};
 ghost use Rattle.operator.specs.Accepted.{Small};
 ghost use Rattle.operator.specs.Bounded.{Near};
@@ -11,14 +10,9 @@ ghost use Rattle.operator.specs.Narrow.{narrowed};
 use integers::Narrow;
 use ring::Point;
 
-mod bounded;
-mod conditions;
 mod coordinates;
-mod matrix;
+mod determinant;
 mod sums;
-
-pub use bounded::determinant;
-pub use bounded::product;
 
 // G(1) as (a, b, c, d) and G(i) as (a', b', c', d') of SPEC, "Operators".
 pub struct Operator {
@@ -52,12 +46,6 @@ pub struct WidePoint {
 pub enum Narrowed {
     Fits(Point),
     TooWide,
-}
-
-// p + q/√2.
-pub struct Entry {
-    pub p: i64,
-    pub q: i64,
 }
 
 // The inverse of a special operator, or the refusal of one that is not.
@@ -126,29 +114,22 @@ impl Operator {
     fn in_range(self) -> bool
         ensures { λ r. ⌜ r ≡ inRange self ⌝ }
     {
-        conditions::both(
-            ranges::entries(self.a, self.b, self.c, self.d),
-            ranges::entries(self.ai, self.bi, self.ci, self.di),
-        )
+        ranges::entries(self.a, self.b, self.c, self.d)
+            & ranges::entries(self.ai, self.bi, self.ci, self.di)
     }
 
     fn is_even(self) -> bool
         ensures { λ r. ⌜ r ≡ evenParity self ⌝ }
     {
-        conditions::both(
-            sums::is_even(self.a, self.c, self.ai, self.ci),
-            sums::is_even(self.b, self.d, self.bi, self.di),
-        )
+        sums::is_even(self.a, self.c, self.ai, self.ci)
+            & sums::is_even(self.b, self.d, self.bi, self.di)
     }
 
     fn is_special(self) -> bool
         ensures { λ r. ⌜ r ≡ special self ⌝ }
     {
-        let e = self.determinant();
-        conditions::both(
-            conditions::either(conditions::equal(e.p, 1), conditions::equal(e.p, -1)),
-            conditions::equal(e.q, 0),
-        )
+        let w = determinant::whole(self);
+        ((w == 1) | (w == -1)) & (determinant::root(self) == 0)
     }
 
     // Gv, by the Note, equations 45 to 48.
@@ -176,43 +157,13 @@ impl Operator {
         }
     }
 
-    // The operator as a matrix: the Note, Lemma 3.8.
-    pub fn matrix(self) -> [[Entry; 2]; 2]
-        ensures { λ r. ⌜ r ≡ matrixOf self ⌝ }
-    {
-        [
-            [
-                matrix::minus(self.d, self.c, self.a),
-                matrix::minus(self.di, self.ci, self.ai),
-            ],
-            [
-                matrix::plus(self.b, self.c, self.a),
-                matrix::plus(self.bi, self.ci, self.ai),
-            ],
-        ]
-    }
-
-    // The product of two operators' matrices.
-    pub fn product(self, h: Operator) -> [[Entry; 2]; 2]
-        ensures { λ r. ⌜ r ≡ productOf (matrixOf self) (matrixOf h) ⌝ }
-    {
-        matrix::product(self.matrix(), h.matrix())
-    }
-
-    // The determinant of the operator's matrix.
-    pub fn determinant(self) -> Entry
-        ensures { λ r. ⌜ r ≡ determinantOf (matrixOf self) ⌝ }
-    {
-        matrix::determinant(self.matrix())
-    }
-
     // The inverse, for determinant 1 and −1: the Note, equations 49 to 51.
     pub fn inverse(self) -> Inverse
         ensures { λ r. ⌜ Inverts self r ⌝ }
     {
         let k = self.check();
         match k {
-            Check::Special => Inverse::Operator(self.adjugate().times(self.determinant().p)),
+            Check::Special => Inverse::Operator(self.adjugate().times(determinant::whole(self))),
             Check::OutOfRange => Inverse::Refused(k),
             Check::OddParity => Inverse::Refused(k),
             Check::NotSpecial => Inverse::Refused(k),

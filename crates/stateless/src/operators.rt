@@ -1,8 +1,8 @@
 // Grid operators.
 use arguments::Eight;
 use arguments::Four;
+use matrices::Entry;
 use operator::Check;
-use operator::Entry;
 use operator::Inverse;
 use operator::Operator;
 use operator::WidePoint;
@@ -22,8 +22,8 @@ pub fn operator(c: usize, n: Numbers) -> Line {
     match c {
         wording::OPERATOR => test(g, Value::Nothing),
         wording::INVERSE => inverse_of(g),
-        wording::MATRIX => Line::Good(matrix(g.matrix())),
-        _ => Line::Good(entry(g.determinant())),
+        wording::MATRIX => Line::Good(matrix(matrices::of(g))),
+        _ => Line::Good(entry(matrices::determinant_of(g))),
     }
 }
 
@@ -102,5 +102,5 @@ pub fn product(n: Numbers) -> Line {
     let Eight::Operator(h) = last_of(n) else {
         return Line::Bad;
     };
-    Line::Good(matrix(g.product(h)))
+    Line::Good(matrix(matrices::product_of(g, h)))
 }

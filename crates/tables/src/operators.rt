@@ -57,7 +57,7 @@ fn sends(g: Operator, n: [i64; WIDTH]) -> bool {
 }
 
 fn has_determinant(g: Operator, p: i64) -> bool {
-    let e = g.determinant();
+    let e = matrices::determinant_of(g);
     (e.p == p) & (e.q == 0)
 }
 

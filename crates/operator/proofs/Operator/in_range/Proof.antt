@@ -1,3 +1,5 @@
+use mathlib.Core.Path.{ap₂}
+use mathlib.Core.Bool.{_&&_}
 use Rattle.operator.specs.Operator.{inRange}
 use Rattle.operator.specs.Bounded.{Fits16, bits16}
 use borrow.Author.Needs.{needs}
@@ -10,17 +12,15 @@ entries-requires c κs = search needs
 entries-requires-2 : tie.Need-entries-requires-2
 entries-requires-2 c κs = search needs
 
-both-requires : tie.Need-both-requires
-both-requires c κs = search needs
-
 fits : (c : tie.Start) → Fits16 (c .args .self)
 fits c = search needs
 
 returns : tie.Need-returns
 unfolding inRange
 returns c =
-    let r = bits16 (fits (c .before .before .before .before .before .before .before .before .before .before .before)) in
-    cc
+    let d = c .before .before .before .before .before in
+    let r = bits16 (fits (d .before .before .before .before .before)) in
+    ap₂ _&&_ (rw (r .a, r .b, r .c, r .d) at (d .entries .ensures)) (rw (r .ai, r .bi, r .ci, r .di) at (c .entries2 .ensures))
 
 pub in-range-spec : {M : Type 1} → statement M
-in-range-spec = tie.close (tie.spec entries-requires entries-requires-2 both-requires returns)
+in-range-spec = tie.close (tie.spec entries-requires entries-requires-2 returns)

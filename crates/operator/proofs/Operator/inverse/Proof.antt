@@ -1,13 +1,12 @@
 use mathlib.Core.Path.{_≡_, refl, sym, _∙_, ap, ap₂}
 use mir.Syntax.{w64}
-use mir.Val.{SFits, toZ, ofZ}
-use mir.Facts.{toZ-ofZ}
+use mir.Val.{toZ, ofZ}
+use Rattle.integers.specs.Size.{back}
 use Rattle.operator.specs.declared.Check.the-variants.{Special}
 use Rattle.operator.specs.declared.Inverse.the-variants.{Operator as Undo}
 use Rattle.operator.specs.Operator.{detWhole, checkOf}
 use Rattle.operator.specs.Inverse.{times, inverseOf, inverts}
 use Rattle.operator.specs.Accepted.{accepted}
-use Rattle.operator.specs.Determinant.{determinant-is}
 use Rattle.operator.specs.Adjugate.{adjugate-small}
 use borrow.Author.Needs.{needs}
 use Rattle.operator.proofs.Operator.inverse.Statement.{statement}
@@ -25,19 +24,16 @@ passed c = sym (c .before .before .check .ensures .check) ∙ c .enum-told .give
 adjugate-requires : tie.Need-adjugate-requires
 adjugate-requires c κs = accepted _ (passed c) .small
 
-determinant-requires : tie.Need-determinant-requires
-determinant-requires c κs = search needs
+whole-requires : tie.Need-whole-requires
+whole-requires c κs = search needs
 
-determinant-is-whole : (c : tie.After-struct-told) → toZ w64 (ofZ w64 (c .before .determinant .result .p)) ≡ detWhole (c .before .before .before .before .before .before .args .self)
-determinant-is-whole c =
-    let d = c .before .determinant in
-    let h : SFits w64 (d .result .p) = search needs in
-    toZ-ofZ h ∙ ap (λ e. e .p) (d .ensures ∙ determinant-is _)
+whole-is : (c : tie.After-whole) → toZ w64 (ofZ w64 (c .whole .result)) ≡ detWhole (c .before .before .before .before .before .args .self)
+whole-is c = back w64 (c .whole .ok) ∙ c .whole .ensures
 
 times-requires : tie.Need-times-requires
 times-requires c κs =
-    let a = accepted _ (passed (c .before .before .before)) in
-    rw (determinant-is-whole c, c .before .before .adjugate .ensures) (a .unit, adjugate-small 100 _ (a .small))
+    let a = accepted _ (passed (c .before .before)) in
+    rw (whole-is c, c .before .adjugate .ensures) (a .unit, adjugate-small 100 _ (a .small))
 
 enum-told-2 : tie.Need-enum-told-2
 enum-told-2 c = search needs
@@ -52,7 +48,7 @@ returns : tie.Need-returns
 unfolding inverseOf
 returns c =
     let d = c .before in
-    inverts (rw (passed (d .before .before .before)) (ap Undo (c .times .ensures ∙ ap₂ times (determinant-is-whole d) (d .before .before .adjugate .ensures))))
+    inverts (rw (passed (d .before .before)) (ap Undo (c .times .ensures ∙ ap₂ times (whole-is d) (d .before .adjugate .ensures))))
 
 returns-2 : tie.Need-returns-2
 unfolding inverseOf
@@ -73,7 +69,7 @@ inverse-spec =
     check-requires
     enum-told
     adjugate-requires
-    determinant-requires
+    whole-requires
     times-requires
     enum-told-2
     enum-told-3
