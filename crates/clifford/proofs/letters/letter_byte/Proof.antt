@@ -1,9 +1,9 @@
 use mathlib.Core.Path.{sym}
 use native.Mathlib.Omega.{arith}
-use Rattle.gates.specs.Written.{other-letter}
+use Rattle.clifford.specs.Written.{other-letter}
 use borrow.Author.Needs.{needs}
-use Rattle.gates.proofs.letters.letter_byte.Statement.{statement}
-use Rattle.gates.proofs.letters.letter_byte.Tie as tie
+use Rattle.clifford.proofs.letters.letter_byte.Statement.{statement}
+use Rattle.clifford.proofs.letters.letter_byte.Tie as tie
 
 returns : tie.Need-returns
 returns c = search needs

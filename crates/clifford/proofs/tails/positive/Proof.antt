@@ -1,7 +1,7 @@
 use mir.Facts.{toZ-ofZ}
-use Rattle.gates.specs.Place.{positive-is}
-use Rattle.gates.proofs.tails.positive.Statement.{statement}
-use Rattle.gates.proofs.tails.positive.Tie as tie
+use Rattle.clifford.specs.Place.{positive-is}
+use Rattle.clifford.proofs.tails.positive.Statement.{statement}
+use Rattle.clifford.proofs.tails.positive.Tie as tie
 
 returns : tie.Need-returns
 returns c = rw (toZ-ofZ (c .fits .z)) (positive-is (c .args .z))

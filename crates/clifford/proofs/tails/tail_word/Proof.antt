@@ -2,11 +2,10 @@ use mathlib.Core.Path.{_∙_, ap}
 use mathlib.Core.List.{_++_}
 use native.Mathlib.Omega.{arith}
 use Rattle.spelling.specs.Table.{tail}
-use Rattle.gates.specs.Written.{bytes}
-use Rattle.gates.specs.Start.{tail-short}
+use Rattle.clifford.specs.Written.{bytes, tail-short}
 use borrow.Author.Needs.{needs}
-use Rattle.gates.proofs.spell.tail_word.Statement.{statement}
-use Rattle.gates.proofs.spell.tail_word.Tie as tie
+use Rattle.clifford.proofs.tails.tail_word.Statement.{statement}
+use Rattle.clifford.proofs.tails.tail_word.Tie as tie
 
 empty-requires : tie.Need-empty-requires
 empty-requires c κs = search needs

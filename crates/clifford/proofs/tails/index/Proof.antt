@@ -2,9 +2,9 @@ use mathlib.Core.Path.{sym, _∙_, ap, ap₂}
 use Prim.Native.Nat.{_+_, _-_, _*_, _/_, _%_}
 use native.Mathlib.Omega.{arith}
 use borrow.Author.Needs.{needs}
-use Rattle.gates.specs.Place.{index-diagonal, index-column, index-full}
-use Rattle.gates.proofs.tails.index.Statement.{statement}
-use Rattle.gates.proofs.tails.index.Tie as tie
+use Rattle.clifford.specs.Place.{index-diagonal, index-column, index-full}
+use Rattle.clifford.proofs.tails.index.Statement.{statement}
+use Rattle.clifford.proofs.tails.index.Tie as tie
 
 log-requires : tie.Need-log-requires
 log-requires c κs = search needs

@@ -1,7 +1,7 @@
 use mir.Facts.{toZ-ofZ}
-use Rattle.gates.specs.Place.{negative-is}
-use Rattle.gates.proofs.tails.negative.Statement.{statement}
-use Rattle.gates.proofs.tails.negative.Tie as tie
+use Rattle.clifford.specs.Place.{negative-is}
+use Rattle.clifford.proofs.tails.negative.Statement.{statement}
+use Rattle.clifford.proofs.tails.negative.Tie as tie
 
 returns : tie.Need-returns
 returns c = rw (toZ-ofZ (c .fits .z)) (negative-is (c .args .z))

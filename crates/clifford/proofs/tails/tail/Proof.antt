@@ -3,10 +3,10 @@ use mathlib.Core.List.{[]}
 use native.Mathlib.Omega.{arith}
 use lib.ListN.{getD}
 use Rattle.spelling.specs.Table.{tails, unpack, tail}
-use Rattle.gates.specs.Written.{Adds}
+use Rattle.clifford.specs.Written.{Adds}
 use borrow.Author.Needs.{needs}
-use Rattle.gates.proofs.tails.tail.Statement.{statement}
-use Rattle.gates.proofs.tails.tail.Tie as tie
+use Rattle.clifford.proofs.tails.tail.Statement.{statement}
+use Rattle.clifford.proofs.tails.tail.Tie as tie
 
 cast-m : tie.Need-cast-m
 cast-m c = search needs

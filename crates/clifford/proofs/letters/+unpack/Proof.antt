@@ -3,19 +3,19 @@ use mathlib.Core.List.{[], _∷_, _++_, append-assoc}
 use Prim.Native.Nat.{_-_, _/_, _%_}
 use native.Mathlib.Omega.{arith}
 use Rattle.spelling.specs.Table.{letter, unpack as unpack′}
-use Rattle.gates.specs.Written.{written, byte, bytes, append-nil, unpack-none, unpack-zero, unpack-more, none-length, more-length}
+use Rattle.clifford.specs.Written.{written, byte, bytes, append-nil, unpack-none, unpack-zero, unpack-more, none-length, more-length}
 use Rattle.spelling.specs.Length.{unpack-length}
 use borrow.Author.Needs.{needs}
 use Prim.Native.Nat.{ℕ, _<_}
 use borrow.Fn.Kinds.{In}
 use borrow.Fn.PlainCycle.{Measures, is, falls, and}
-use Rattle.gates.proofs.letters.unpack.Reads as unpack
-use Rattle.gates.proofs.letters.unpack.Kinds as unpack-kinds
-use Rattle.gates.proofs.letters.+unpack.Lts-unpack as unpack-lts
-use Rattle.gates.proofs.letters.letter_byte.Reads as letter-byte-reads
-use Rattle.gates.proofs.letters.push.Reads as push-reads
-use Rattle.gates.proofs.letters.+unpack.{statement}
-use Rattle.gates.proofs.letters.+unpack.Tie.{close}
+use Rattle.clifford.proofs.letters.unpack.Reads as unpack
+use Rattle.clifford.proofs.letters.unpack.Kinds as unpack-kinds
+use Rattle.clifford.proofs.letters.+unpack.Lts-unpack as unpack-lts
+use Rattle.clifford.proofs.letters.letter_byte.Reads as letter-byte-reads
+use Rattle.clifford.proofs.letters.push.Reads as push-reads
+use Rattle.clifford.proofs.letters.+unpack.{statement}
+use Rattle.clifford.proofs.letters.+unpack.Tie.{close}
 
 abbrev μ-unpack : Measures 0 unpack-kinds.ps ℕ
 μ-unpack κs a = a .1 .0

@@ -4,8 +4,8 @@ use native.Mathlib.Numerals.{add-one}
 use lib.ListN.{length, take, set}
 use lib.Seq.{take-suc-set}
 use borrow.Author.Needs.{needs}
-use Rattle.gates.proofs.letters.push.Statement.{statement}
-use Rattle.gates.proofs.letters.push.Tie as tie
+use Rattle.clifford.proofs.letters.push.Statement.{statement}
+use Rattle.clifford.proofs.letters.push.Tie as tie
 
 array-write-a : tie.Need-array-write-a
 array-write-a c = search needs

@@ -4,8 +4,9 @@ ghost use mathlib.Core.Bool.{cond};
 ghost use Prim.Native.Nat.{_+_, _<_, _≤_};
 ghost use lib.ListN.{getD};
 ghost use Rattle.spelling.specs.Table.{positive, negative, log, index, tails, tail};
-ghost use Rattle.gates.specs.Written.{Adds};
+ghost use Rattle.clifford.specs.Written.{Adds, Writes};
 use crate::letters::Word;
+use crate::letters::empty;
 use crate::letters::unpack;
 use ring::Point;
 use spelling::State;
@@ -272,10 +273,17 @@ fn entry(i: usize) -> u32
 }
 
 // The tail of a state, written behind w.
-pub(crate) fn tail(w: Word, s: State) -> Word
+pub fn tail(w: Word, s: State) -> Word
     requires { ⌜ w .len + 10 ≤ 128 ⌝ }
     ensures { λ r. ⌜ Adds w (tail s) r ⌝ }
 {
     let m = (s.l % 8 / 2) as usize;
     unpack(w, 10, entry(index(s.u, s.t, m)))
+}
+
+// The tail of a state by itself.
+pub fn tail_word(s: State) -> Word
+    ensures { λ r. ⌜ Writes r (tail s) ⌝ }
+{
+    tail(empty(), s)
 }

@@ -4,9 +4,9 @@ use mir.Val.{SFits}
 use mir.Facts.{toZ-ofZ}
 use borrow.Author.Needs.{needs}
 use Rattle.spelling.specs.Table.{positive, negative, log}
-use Rattle.gates.specs.Place.{picked, log-small}
-use Rattle.gates.proofs.tails.log.Statement.{statement}
-use Rattle.gates.proofs.tails.log.Tie as tie
+use Rattle.clifford.specs.Place.{picked, log-small}
+use Rattle.clifford.proofs.tails.log.Statement.{statement}
+use Rattle.clifford.proofs.tails.log.Tie as tie
 
 negative-requires : tie.Need-negative-requires
 negative-requires c κs = search needs
