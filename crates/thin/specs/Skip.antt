@@ -13,15 +13,15 @@ use Rattle.rows.specs.declared.Band.{Band}
 use Rattle.rows.specs.Row.{at, above, below, coordinate-mono}
 use Rattle.rows.specs.Both.{is-false, both-true, both-of}
 use Rattle.rows.specs.Steps.{solved, shiftOf, Even}
-use Rattle.line.specs.declared.Interval.{Interval}
-use Rattle.line.specs.Line.{bound, span, coordinate, accepted, inRange, solves, holds}
-use Rattle.line.specs.Strips.{stripOf, solves-row, Ranged, both-ranged, size-within}
-use Rattle.line.specs.Ends.{lo-divided, hi-divided}
-use Rattle.line.specs.Bounds.{solution-within, solution-row, lastRow}
-use Rattle.line.specs.Full.{digit, coordinate-≺}
-use Rattle.line.specs.Narrow.{Wide, NotBefore, image, origin, firstOf, secondOf, rowsOf, steps-hold, image-origin, origin-image, rises, row-from, row-to}
-use Rattle.line.specs.Sized.{Sized, Ends, whole, shifted, scaled, rowEnd, unitSize, shift-ends, times-ends, end-size, coordinate-size}
-use Rattle.line.specs.Walk.{Ready, Passed, Skips, solved-row}
+use Rattle.thin.specs.declared.Interval.{Interval}
+use Rattle.thin.specs.Line.{bound, span, coordinate, accepted, inRange, solves, holds}
+use Rattle.thin.specs.Strips.{stripOf, solves-row, Ranged, both-ranged, size-within}
+use Rattle.thin.specs.Ends.{lo-divided, hi-divided}
+use Rattle.thin.specs.Bounds.{solution-within, solution-row, lastRow}
+use Rattle.thin.specs.Past.{digit, coordinate-≺}
+use Rattle.thin.specs.Narrow.{Wide, NotBefore, image, origin, firstOf, secondOf, rowsOf, steps-hold, image-origin, origin-image, rises, row-from, row-to}
+use Rattle.thin.specs.Sized.{Sized, Ends, whole, shifted, scaled, rowEnd, unitSize, shift-ends, times-ends, end-size, coordinate-size}
+use Rattle.thin.specs.Walk.{Ready, Passed, Skips, solved-row}
 
 -- a pair solves the problem of intervals if and only if it solves that of their strips
 pub solves-solved : (i j : Interval) (a b : ℤ) → solves i j a b ≡ solved (stripOf i) (stripOf j) (at a b)

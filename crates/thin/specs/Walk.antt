@@ -16,12 +16,12 @@ use Rattle.rows.specs.Row.{at, coordinate, coordinate-mono, above, below, below
 use Rattle.rows.specs.Row as Row
 use Rattle.rows.specs.Both.{regroup}
 use Rattle.rows.specs.Steps.{solved, Even}
-use Rattle.line.specs.declared.Interval.{Interval}
-use Rattle.line.specs.Line.{bound, span, solves}
-use Rattle.line.specs.Line as Line
-use Rattle.line.specs.Past.{pastOf, from-past, at-past}
-use Rattle.line.specs.Narrow.{NotBefore, origin}
-use Rattle.line.specs.Sized.{Sized, Ends, whole, scaled, rowEnd, unitSize, small}
+use Rattle.thin.specs.declared.Interval.{Interval}
+use Rattle.thin.specs.Line.{bound, span, solves}
+use Rattle.thin.specs.Line as Line
+use Rattle.thin.specs.Past.{pastOf, from-past, at-past}
+use Rattle.thin.specs.Narrow.{NotBefore, origin}
+use Rattle.thin.specs.Sized.{Sized, Ends, whole, scaled, rowEnd, unitSize, small}
 
 -- ---- digits of the scaled pairs: that of 0, and how many
 abbrev pub middle : ℕ

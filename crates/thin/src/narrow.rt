@@ -5,14 +5,16 @@ ghost use mathlib.Core.Path.{_≡_};
 ghost use mathlib.Core.Bool.{true};
 ghost use Prim.Native.Nat.{_≤_};
 ghost use lib.IntN.{pos, natAbs, _-ℤ_, _*ℤ_};
-ghost use Rattle.line.specs.Line.{accepted, span};
-ghost use Rattle.line.specs.Line as line;
-ghost use Rattle.line.specs.Strips.{Ranged};
-ghost use Rattle.line.specs.Narrow.{rowsIn, origin};
-ghost use Rattle.line.specs.Sized.{Sized, Ends, whole, shifted, scaled, unitSize};
-ghost use Rattle.line.specs.Walk.{InRow, Ready, Passed, Skips, pairAt, top};
+ghost use Rattle.thin.specs.Line.{accepted, span};
+ghost use Rattle.thin.specs.Line as line;
+ghost use Rattle.thin.specs.Strips.{Ranged};
+ghost use Rattle.thin.specs.Narrow.{rowsIn, origin};
+ghost use Rattle.thin.specs.Sized.{Sized, Ends, whole, shifted, scaled, unitSize};
+ghost use Rattle.thin.specs.Walk.{InRow, Ready, Passed, Skips, pairAt, top};
+use crate::BOUND;
 use crate::Interval;
-use crate::search;
+use crate::SPAN;
+use crate::ends;
 use crate::steps;
 use ring::RootTwo;
 use ring::exact::combined;
@@ -23,10 +25,13 @@ use rows::Band;
 // The digit of 0 in the scaled problem, and the number of digits.
 const HALF: u64 = 4294967296;
 
-const TOP: u64 = 8589934592;
+const TOP: u64 = 2 * HALF;
 
-// Internal step 2, the sides exchanged: either interval may be the thin one, and a pair and its conjugate have the same a.
-pub(crate) fn onward(first: Interval, second: Interval, a: u64) -> u64
+// The greatest distance of two coordinates.
+const APART: u64 = 2 * BOUND;
+
+// A row from a on, such that no pair lies in the rows from a on before it. Internal step 2, the sides exchanged: either interval may be the thin one, and a pair and its conjugate have the same a.
+pub fn onward(first: Interval, second: Interval, a: u64) -> u64
     requires { ⌜ (accepted first second ≡ true) × (a ≤ span) ⌝ }
     ensures { λ r. ⌜ Skips first second a r ⌝ }
 {
@@ -53,8 +58,8 @@ fn skip(first: Interval, second: Interval, a: u64) -> u64
     requires { ⌜ (accepted first second ≡ true) × (a ≤ span) ⌝ }
     ensures { λ r. ⌜ Skips first second a r ⌝ }
 {
-    let s = search::strip(first);
-    let t = search::strip(second);
+    let s = ends::strip(first);
+    let t = ends::strip(second);
     if steps::is_within(t, 1) {
         let o = alpha0(s, t);
         let x = steps::shift(t, conjugate(o));
@@ -63,7 +68,7 @@ fn skip(first: Interval, second: Interval, a: u64) -> u64
         let f = steps::scale(y, u);
         let g = steps::scale(x, conjugate(u));
         if steps::is_within(g, 2) {
-            let w = row_strip(x, g, o, u, a, search::last_row(s, t));
+            let w = row_strip(x, g, o, u, a, ends::last_row(s, t));
             return walk(f, g, w, o, u, a);
         }
     }
@@ -75,11 +80,11 @@ fn alpha0(s: Band, t: Band) -> RootTwo
     requires { ⌜ Ranged s × Ranged t ⌝ }
     ensures { λ r. ⌜ Sized whole r ⌝ }
 {
-    let f = search::floor(s.m, s.lo.p);
-    let g = search::floor(t.m, t.lo.p);
+    let f = ends::floor(s.m, s.lo.p);
+    let g = ends::floor(t.m, t.lo.p);
     RootTwo {
-        p: rows::coordinate(10000, (f + g) / 2),
-        q: rows::coordinate(7071, (f + 20000 - g) * 70 / 198),
+        p: rows::coordinate(BOUND, (f + g) / 2),
+        q: rows::coordinate(7071, (f + APART - g) * 70 / 198),
     }
 }
 
@@ -100,7 +105,7 @@ fn reach(m: i64, p: i64, t: u64) -> i64
     requires { ⌜ (natAbs m ≤ 200) × (natAbs p ≤ whole) × (t ≤ span) ⌝ }
     ensures { λ r. ⌜ (r ≡ pos 2 *ℤ m *ℤ (line.coordinate t -ℤ p)) × (natAbs r ≤ shifted) ⌝ }
 {
-    2 * m * (rows::coordinate(10000, t) - p)
+    2 * m * (rows::coordinate(BOUND, t) - p)
 }
 
 // Internal steps 6 and 7, by a' and then b': the row of the first pair from the row a on, or the number of rows.
@@ -118,22 +123,22 @@ fn walk(f: Band, g: Band, w: Band, o: RootTwo, u: RootTwo, a: u64) -> u64
                 q: 0,
             },
         ) {
-            return 20001;
+            return SPAN;
         }
         let r = in_row(f, g, x, y);
         if r < TOP {
             let z = place(o, u, x, r);
-            if z < rows::coordinate(10000, a) {
+            if z < rows::coordinate(BOUND, a) {
                 y = r + 1;
             } else {
-                return search::past(z);
+                return ends::past(z);
             }
         } else {
             x += 1;
             y = 0;
         }
     }
-    20001
+    SPAN
 }
 
 // Internal step 7: the first digit of b' from y on that has a pair in the row x, or TOP.

@@ -4,8 +4,8 @@ use native.Mathlib.Omega.{arith}
 use lib.IntN.{negℤ}
 use Rattle.ring.specs.RootTwo.{conj-parts}
 use Rattle.rows.specs.Steps.{Even, even-conj, evenPower, even-power}
-use Rattle.line.proofs.steps.power.Statement.{statement}
-use Rattle.line.proofs.steps.power.Tie as tie
+use Rattle.thin.proofs.steps.power.Statement.{statement}
+use Rattle.thin.proofs.steps.power.Tie as tie
 
 -- the conjugate of (3 + 2√2)^k
 turned : (k : ℕ) → Even (record { p = evenPower k .p; q = negℤ (evenPower k .q) })
