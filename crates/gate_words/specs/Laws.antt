@@ -16,8 +16,7 @@ use Rattle.ranges.specs.Ranges.{topScale}
 use Rattle.spelling.specs.Points.{N, F}
 use Rattle.spelling.specs.State.{Equation}
 use Rattle.spelling.specs.Table.{Letter}
-use Rattle.gates.specs.declared.letters.Word.{Word}
-use Rattle.gates.specs.Written.{written, bytes, tally, tally-is, length-bytes, Writes}
+use Rattle.gates.specs.Written.{Word, written, bytes, tally, tally-is, length-bytes, Writes}
 use Rattle.gate_words.specs.declared.Refusal.the-variants.{OutOfRange, NotUnitary, NoRoom}
 use Rattle.gate_words.specs.declared.Answer.{Answer}
 use Rattle.gate_words.specs.declared.Answer.the-variants.{First, Second, Refused}

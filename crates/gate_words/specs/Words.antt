@@ -11,8 +11,7 @@ use Rattle.ranges.specs.Ranges.{topScale}
 use Rattle.spelling.specs.Points.{turn}
 use Rattle.spelling.specs.Table.{Letter}
 use Rattle.spelling.specs.Word.{word, Ts}
-use Rattle.gates.specs.declared.letters.Word.{Word}
-use Rattle.gates.specs.Written.{written, bytes, tally}
+use Rattle.gates.specs.Written.{Word, written, bytes, tally}
 use Rattle.gate_words.specs.declared.Refusal.{Refusal}
 use Rattle.gate_words.specs.declared.Refusal.the-variants.{OutOfRange, NotUnitary, NoRoom}
 use Rattle.gate_words.specs.declared.Answer.{Answer}

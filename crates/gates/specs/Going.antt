@@ -15,7 +15,7 @@ use Rattle.spelling.specs.Step.{step, next-even, next-not}
 use Rattle.spelling.specs.Table.{tail}
 use Rattle.spelling.specs.Word.{syllable, syllables, bareAtZero, body}
 use Rattle.spelling.specs.Length.{narrow}
-use Rattle.gates.specs.declared.letters.Word.{Word}
+use Rattle.gates.specs.Written.{Word}
 use Rattle.gates.specs.Fit.{shift-small}
 
 pub record Going (r : ℕ) (s : State) (w : Word) : Type 0 where

@@ -14,14 +14,9 @@ use Rattle.spelling.specs.Table.{Letter, T, tail}
 use Rattle.spelling.specs.Word.{syllable, syllables, without-T, front, bareAtZero, spelled, reduced, body, word}
 use Rattle.spelling.specs.Least.{Least, reduced-least}
 use Rattle.spelling.specs.Number.{starts, starts-T}
-use Rattle.spelling.specs.Length.{body-length, stage-small, reduced-k, word-length}
-use Rattle.gates.specs.declared.letters.Word.{Word}
-use Rattle.gates.specs.Written.{written, bytes, bytes-++, Adds, Writes}
+use Rattle.spelling.specs.Length.{stage-small, reduced-k, word-length}
+use Rattle.gates.specs.Written.{Word, written, bytes, bytes-++, Adds, Writes}
 use Rattle.gates.specs.Going.{Going, body-more, body-none, goes}
-
-pub tail-short : (s : State) → length (tail s) ≤ 10
-unfolding body
-tail-short s = body-length 0 s
 
 -- ---- the loop: n syllables of r are left
 pub record Left (r : ℕ) (s : State) (w : Word) (n : ℕ) (x : State) (v : Word) : Type 0 where

@@ -4,10 +4,9 @@ mod parity;
 mod points;
 mod spell;
 mod states;
-mod tails;
 
-pub use letters::Word;
+pub use clifford::Word;
+pub use clifford::tail_word;
 pub use letters::ts;
 pub use spell::conjugate_word;
-pub use spell::tail_word;
 pub use spell::word;

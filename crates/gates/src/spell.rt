@@ -4,14 +4,14 @@ ghost use Prim.Native.Nat.{_^_, _<_, _≤_};
 ghost use Rattle.ranges.specs.Ranges.{topScale};
 ghost use Rattle.spelling.specs.Points.{turn};
 ghost use Rattle.spelling.specs.State.{Equation, isBare, Stage};
-ghost use Rattle.spelling.specs.Table.{tail};
 ghost use Rattle.spelling.specs.Word.{syllables, without-T, bareAtZero, body, word};
 ghost use Rattle.gates.specs.Written.{Adds, Writes};
 ghost use Rattle.gates.specs.Going.{Going};
 ghost use Rattle.gates.specs.Start.{lead, start};
-use crate::letters::Word;
-use crate::letters::empty;
-use crate::letters::push;
+use clifford::Word;
+use clifford::empty;
+use clifford::push;
+use clifford::tail;
 use crate::letters::syllable;
 use crate::parity::bare;
 use crate::parity::odd;
@@ -21,7 +21,6 @@ use crate::points::over_omega;
 use crate::points::times_omega;
 use crate::states::next;
 use crate::states::reduce;
-use crate::tails::tail;
 use ring::Point;
 use spelling::State;
 
@@ -85,13 +84,6 @@ fn body(w: Word, s: State, r: u32) -> Word
         n -= 1;
     }
     tail(out, x)
-}
-
-// The tail of a state by itself.
-pub fn tail_word(s: State) -> Word
-    ensures { λ r. ⌜ Writes r (tail s) ⌝ }
-{
-    tail(empty(), s)
 }
 
 // T, unless the word has none in front.

@@ -9,19 +9,17 @@ ghost use Rattle.line.specs.Start.{rankOf};
 ghost use Rattle.line.specs.Next.{Near, Inside};
 ghost use Rattle.line.specs.Given.{Given};
 
-mod narrow;
 mod search;
-mod steps;
+
+pub use thin::Interval;
 
 use search::Digits;
 use search::Spot;
 
-// lo ≤ n·z ≤ hi, ends included.
-pub struct Interval {
-    pub n: i32,
-    pub lo: i32,
-    pub hi: i32,
-}
+// Coordinates of a pair, and ends of an interval, lie within ±10,000.
+const HIGHEST: i32 = thin::BOUND as i32;
+
+pub(crate) const LOWEST: i32 = -HIGHEST;
 
 // Where the pairs begin.
 pub enum Place {
@@ -51,8 +49,8 @@ fn in_range(i: Interval) -> bool
     ensures { λ r. ⌜ r ≡ inRange i ⌝ }
 {
     if within(1, 100, i.n) {
-        if within(-10000, 10000, i.lo) {
-            return within(-10000, 10000, i.hi);
+        if within(LOWEST, HIGHEST, i.lo) {
+            return within(LOWEST, HIGHEST, i.hi);
         }
     }
     false
@@ -108,5 +106,5 @@ fn coordinate(t: u64) -> i32
     requires { ⌜ t < span ⌝ }
     ensures { λ r. ⌜ r ≡ coordinate t ⌝ }
 {
-    t as i32 - 10000
+    t as i32 - HIGHEST
 }

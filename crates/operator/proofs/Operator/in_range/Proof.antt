@@ -1,5 +1,6 @@
-use mathlib.Core.Path.{ap₂}
+use mathlib.Core.Path.{_∙_, ap₂}
 use mathlib.Core.Bool.{_&&_}
+use Rattle.ranges.specs.Ranges.{entries}
 use Rattle.operator.specs.Operator.{inRange}
 use Rattle.operator.specs.Bounded.{Fits16, bits16}
 use borrow.Author.Needs.{needs}
@@ -20,7 +21,7 @@ unfolding inRange
 returns c =
     let d = c .before .before .before .before .before in
     let r = bits16 (fits (d .before .before .before .before .before)) in
-    ap₂ _&&_ (rw (r .a, r .b, r .c, r .d) at (d .entries .ensures)) (rw (r .ai, r .bi, r .ci, r .di) at (c .entries2 .ensures))
+    ap₂ _&&_ (d .entries .ensures ∙ (λ i. entries (r .a i) (r .b i) (r .c i) (r .d i))) (c .entries2 .ensures ∙ (λ i. entries (r .ai i) (r .bi i) (r .ci i) (r .di i)))
 
 pub in-range-spec : {M : Type 1} → statement M
 in-range-spec = tie.close (tie.spec entries-requires entries-requires-2 returns)

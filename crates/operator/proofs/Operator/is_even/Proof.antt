@@ -1,5 +1,7 @@
-use mathlib.Core.Path.{ap₂}
+use mathlib.Core.Path.{_∙_, ap₂}
 use mathlib.Core.Bool.{_&&_}
+use lib.IntN.{_+ℤ_}
+use Rattle.integers.specs.Parity.{even}
 use Rattle.operator.specs.Operator.{evenParity}
 use Rattle.operator.specs.Bounded.{Fits16, bits16}
 use borrow.Author.Needs.{needs}
@@ -20,7 +22,7 @@ unfolding evenParity
 returns c =
     let d = c .before .before .before .before .before in
     let r = bits16 (fits (d .before .before .before .before .before)) in
-    ap₂ _&&_ (rw (r .a, r .c, r .ai, r .ci) at (d .is-even .ensures)) (rw (r .b, r .d, r .bi, r .di) at (c .is-even2 .ensures))
+    ap₂ _&&_ (d .is-even .ensures ∙ (λ i. even (r .a i +ℤ r .c i +ℤ r .ai i +ℤ r .ci i))) (c .is-even2 .ensures ∙ (λ i. even (r .b i +ℤ r .d i +ℤ r .bi i +ℤ r .di i)))
 
 pub is-even-spec : {M : Type 1} → statement M
 is-even-spec = tie.close (tie.spec is-even-requires is-even-requires-2 returns)

@@ -1,0 +1,80 @@
+// An interval as a strip, its ends divided by n, and the rows between which all pairs stand.
+ghost use mathlib.Core.Path.{_≡_};
+ghost use Prim.Native.Nat.{_*_};
+ghost use Rattle.thin.specs.Line.{bound};
+ghost use Rattle.thin.specs.Strips.{stripOf, Ranged};
+ghost use Rattle.thin.specs.Ends.{Divided, floorOf, ceilingOf};
+ghost use Rattle.thin.specs.Bounds.{firstRow, lastRow};
+ghost use Rattle.thin.specs.Past.{pastOf};
+use crate::BOUND;
+use crate::Interval;
+use crate::SPAN;
+use ring::RootTwo;
+use rows::Band;
+
+// The highest coordinate, and the lowest.
+const HIGHEST: i64 = BOUND as i64;
+
+const LOWEST: i64 = -HIGHEST;
+
+// An interval as a strip.
+pub fn strip(i: Interval) -> Band
+    ensures { λ r. ⌜ r ≡ stripOf i ⌝ }
+{
+    Band {
+        m: i.n as i64,
+        lo: RootTwo {
+            p: i.lo as i64,
+            q: 0,
+        },
+        hi: RootTwo {
+            p: i.hi as i64,
+            q: 0,
+        },
+    }
+}
+
+// How many of the coordinates lie below z.
+pub fn past(z: i64) -> u64
+    ensures { λ r. ⌜ r ≡ pastOf z ⌝ }
+{
+    if z < LOWEST {
+        return 0;
+    }
+    if HIGHEST < z {
+        return SPAN;
+    }
+    (z + HIGHEST) as u64
+}
+
+// ⌊x/n⌋ + 10,000.
+pub(crate) fn floor(n: i64, x: i64) -> u64
+    requires { ⌜ Divided (2 * bound) n x ⌝ }
+    ensures { λ r. ⌜ r ≡ floorOf n x ⌝ }
+{
+    (x + HIGHEST * n) as u64 / n as u64
+}
+
+// ⌈x/n⌉ + 10,000.
+fn ceiling(n: i64, x: i64) -> u64
+    requires { ⌜ Divided bound n x ⌝ }
+    ensures { λ r. ⌜ r ≡ ceilingOf n x ⌝ }
+{
+    floor(n, x + n - 1)
+}
+
+// No pair stands in a row before this one.
+pub fn first_row(s: Band, t: Band) -> u64
+    requires { ⌜ Ranged s × Ranged t ⌝ }
+    ensures { λ r. ⌜ r ≡ firstRow s t ⌝ }
+{
+    (floor(s.m, s.lo.p) + floor(t.m, t.lo.p)) / 2
+}
+
+// No pair stands in a row after this one.
+pub fn last_row(s: Band, t: Band) -> u64
+    requires { ⌜ Ranged s × Ranged t ⌝ }
+    ensures { λ r. ⌜ r ≡ lastRow s t ⌝ }
+{
+    (ceiling(s.m, s.hi.p) + ceiling(t.m, t.hi.p)) / 2
+}
