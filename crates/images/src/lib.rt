@@ -27,7 +27,7 @@ fn lists_wide(job: Job, v: WidePoint) -> bool
 {
     let n = v.narrow();
     match n {
-        Narrowed::Fits(u) => job.lists(u),
+        Narrowed::Fits(u) => membership::lists(job, u),
         Narrowed::TooWide => false,
     }
 }

@@ -41,7 +41,7 @@ fn right(s: &[u8], at: usize, row: Row) -> bool {
         return false;
     };
     let j = job_of(k, a, table_rows::has(s, at, row.next, b'B'));
-    j.solves(v) == table_rows::has(s, at, row.next, b'y')
+    membership::solves(j, v) == table_rows::has(s, at, row.next, b'y')
 }
 
 // A slice, where its numbers fit.

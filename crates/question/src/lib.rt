@@ -60,8 +60,8 @@ fn is_loose(job: Job, g: Invertible) -> bool
 {
     let a = job.a;
     let b = job.b;
-    if a.radius() == 0 {
-        if b.radius() == 0 {
+    if extent::radius(a) == 0 {
+        if extent::radius(b) == 0 {
             return false;
         }
     }

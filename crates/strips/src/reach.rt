@@ -104,8 +104,8 @@ pub(crate) fn over(region: Region, u: RootTwo, v: RootTwo) -> RootTwo
     requires { ⌜ (accepted region ≡ true) × Direction u v ⌝ }
     ensures { λ h. ⌜ Reaches region u v h ⌝ }
 {
-    let d = over_enclosure(region.enclosure(), u, v);
-    let n = region.radius();
+    let d = over_enclosure(extent::enclosure(region), u, v);
+    let n = extent::radius(region);
     if n == 0 {
         return d;
     }

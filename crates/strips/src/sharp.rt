@@ -67,7 +67,7 @@ fn whole(region: Region, u: i64, v: i64) -> i64
     requires { ⌜ (accepted region ≡ true) × (natAbs u ≤ 16000) × (natAbs v ≤ 16000) ⌝ }
     ensures { λ r. ⌜ Bounds region u v r ⌝ }
 {
-    region.bound(u as i16, v as i16)
+    extent::bound(region, u as i16, v as i16)
 }
 
 // b + 2n.
