@@ -1,3 +1,3 @@
--- `Sharp` has lines one by one and the ranges that they leave; `Blocks` columns without a whole d.
+-- `Sharp` has the sharper of lines; `Blocks` columns without a whole d.
 pub mod Sharp
 pub mod Blocks

@@ -11,7 +11,7 @@ use Rattle.ranks.specs.Rest.{at, ended, isNil, rest, leftAt, left-place}
 use Rattle.ranks.specs.Rank.{top}
 use Rattle.ranks.specs.Handed.{put, take-put}
 use Rattle.cuts.specs.Digits.{span}
-use Rattle.walk.specs.Walk.{listedAt, numbersOf}
+use Rattle.lists.specs.Walk.{listedAt, numbersOf}
 use Rattle.calls.specs.Session.{handOut, refused, taken, handed, done, says, best, early, walking, step}
 use Rattle.calls.specs.Session as Model
 use Rattle.stages.specs.World.{world}

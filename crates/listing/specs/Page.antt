@@ -8,7 +8,7 @@ use Rattle.ranks.specs.Rest.{at, ended, isNil, placeOf, rest}
 use Rattle.ranks.specs.Rank.{top}
 use Rattle.ranks.specs.Handed.{flat}
 use Rattle.cuts.specs.Digits.{span}
-use Rattle.walk.specs.Walk.{listedAt, numbersOf}
+use Rattle.lists.specs.Walk.{listedAt, numbersOf}
 use Rattle.text.specs.Append.{Appended}
 use Rattle.list_lines.specs.Lines.{linesOf}
 use Rattle.calls.specs.Session.{early, walking}

@@ -11,8 +11,8 @@ use lib.ListN.{length, drop}
 use Rattle.ranks.specs.Rest.{at, ended, rest, left-place}
 use Rattle.ranks.specs.Rank.{top}
 use Rattle.cuts.specs.Digits.{span}
-use Rattle.walk.specs.Walk.{listedAt, full}
-use Rattle.walk.specs.Count.{full-fewer}
+use Rattle.lists.specs.Walk.{listedAt, full}
+use Rattle.lists.specs.Count.{full-fewer}
 use Rattle.calls.specs.Session.{early, walking}
 use Rattle.input.specs.Load.{Loaded, ready, refused, tooLong, loadOf}
 use Rattle.list_lines.specs.Lines.{linesOf, endLine}

@@ -3,7 +3,7 @@ use mathlib.Core.List.{List, [], _∷_, _++_}
 use Prim.Native.Nat.{ℕ}
 use lib.ListN.{length}
 use Rattle.ranks.specs.Handed.{flat}
-use Rattle.walk.specs.Walk.{numbersOf}
+use Rattle.lists.specs.Walk.{numbersOf}
 use Rattle.calls.specs.Since.{fullOf}
 use Rattle.stages.specs.World.{world}
 use Rattle.input.specs.Load.{Loaded, ready, refused, tooLong, loadOf}

@@ -12,7 +12,7 @@ use Rattle.ranks.specs.Rank.{top}
 use Rattle.cuts.specs.Digits.{span}
 use Rattle.region.specs.declared.Job.{Job}
 use Rattle.operator.specs.declared.Operator.{Operator}
-use Rattle.walk.specs.Walk.{listedAt}
+use Rattle.lists.specs.Walk.{listedAt}
 use Rattle.calls.specs.Session.{walking}
 use Rattle.words.specs.Meaning.{sizeOf, wrapped}
 use Rattle.list_lines.specs.Lines.{linesOf, endLine}

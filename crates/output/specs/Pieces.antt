@@ -9,7 +9,7 @@ use Rattle.kinds.specs.Kinds.{number}
 use Rattle.ranks.specs.Rest.{leftAt}
 use Rattle.ranks.specs.Rank.{top}
 use Rattle.cuts.specs.Digits.{span}
-use Rattle.walk.specs.Walk.{listedAt}
+use Rattle.lists.specs.Walk.{listedAt}
 use Rattle.calls.specs.Session.{early, walking}
 use Rattle.calls.specs.Session as Model
 use Rattle.stages.specs.World.{world}

@@ -7,9 +7,9 @@ use Rattle.region.specs.declared.Job.{Job}
 use Rattle.region.specs.Region.{solves}
 use Rattle.region.specs.Membership.{solves-true}
 use Rattle.region.specs.Void.{isVoid, void-none}
-use Rattle.walk.specs.Walk.{full}
-use Rattle.walk.specs.Full.{full-empty}
-use Rattle.walk.specs.Search.{no-solution}
+use Rattle.lists.specs.Walk.{full}
+use Rattle.lists.specs.Full.{full-empty}
+use Rattle.lists.specs.Left.{no-solution}
 
 empty : (j : Job) → ((v : Point) → solves j v ≡ true → ⊥) → false ≡ not (isNil (full j))
 empty j h = sym (ap not (ap isNil (full-empty j .1 (λ v. no-solution j v (h v)))))

@@ -4,7 +4,7 @@ ghost use mathlib.Core.Bool.{true, not};
 ghost use Rattle.ranks.specs.Rest.{isNil};
 ghost use Rattle.region.specs.Region.{acceptedJob};
 ghost use Rattle.reduction.specs.Undoing.{Undoing};
-ghost use Rattle.walk.specs.Walk.{full};
+ghost use Rattle.lists.specs.Walk.{full};
 
 mod halves;
 mod image;

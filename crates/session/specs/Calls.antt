@@ -6,7 +6,7 @@ use lib.IntN.{ℤ}
 use lib.ListN.{length, take}
 use Rattle.ranks.specs.Members.{Rising}
 use Rattle.ranks.specs.Handed.{flat}
-use Rattle.walk.specs.Walk.{numbersOf}
+use Rattle.lists.specs.Walk.{numbersOf}
 use Rattle.calls.specs.Session.{Call, handOut, step, answers, after}
 use Rattle.calls.specs.Session as Model
 use Rattle.calls.specs.Rules.{verdict, verdicts, begin}

@@ -8,7 +8,7 @@ use lib.ListN.{length, take, drop}
 use Rattle.ranks.specs.Members.{Rising}
 use Rattle.ranks.specs.Rest.{isNil}
 use Rattle.ranks.specs.Handed.{flat}
-use Rattle.walk.specs.Walk.{numbersOf}
+use Rattle.lists.specs.Walk.{numbersOf}
 use Rattle.calls.specs.Session.{Call, handOut, step, answers, after, isRefused}
 use Rattle.calls.specs.Session as Model
 use Rattle.calls.specs.Rules.{verdict, verdicts, begin}

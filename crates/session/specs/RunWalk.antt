@@ -16,9 +16,9 @@ use Rattle.ranks.specs.Rank.{top}
 use Rattle.ranks.specs.Members.{Rising, rest-sound}
 use Rattle.ranks.specs.Handed.{flat}
 use Rattle.cuts.specs.Digits.{span}
-use Rattle.walk.specs.Walk.{pointOf, listedAt, numbersOf, full}
-use Rattle.walk.specs.Points.{PointBefore, point-order, rank-point}
-use Rattle.walk.specs.Full.{Listed, full-holds, full-empty, listed-fits}
+use Rattle.lists.specs.Walk.{pointOf, listedAt, numbersOf, full}
+use Rattle.lists.specs.Points.{PointBefore, point-order, rank-point}
+use Rattle.lists.specs.Full.{Listed, full-holds, full-empty, listed-fits}
 use Rattle.operator.specs.declared.Operator.{Operator}
 use Rattle.calls.specs.Session.{whole, plain, early, walking}
 use Rattle.calls.specs.Session as Model

@@ -5,7 +5,7 @@ ghost use Rattle.calls.specs.Session.{step, handOut, given};
 ghost use Rattle.ranks.specs.Rest.{leftAt};
 ghost use Rattle.ranks.specs.Rank.{top};
 ghost use Rattle.cuts.specs.Digits.{span};
-ghost use Rattle.walk.specs.Walk.{listedAt, spotOf};
+ghost use Rattle.lists.specs.Walk.{listedAt, spotOf};
 ghost use Rattle.stages.specs.World.{world};
 ghost use Rattle.stages.specs.Session.{courseOf, ended, EmptyIf, Gives};
 use operator::Operator;

@@ -28,12 +28,12 @@ use Rattle.equation.specs.Size.{within-bound, given-within}
 use Rattle.entry.specs.Full.{full-holds, within-fits}
 use Rattle.shortest.specs.declared.Pattern.{Pattern}
 use Rattle.shortest.specs.declared.Pattern.the-variants as P
-use Rattle.shortest.specs.declared.Found.{Found}
-use Rattle.shortest.specs.declared.Found.the-variants as F
+use Rattle.pairing.specs.declared.Found.{Found}
+use Rattle.pairing.specs.declared.Found.the-variants as F
 use Rattle.shortest.specs.Pattern.{at, hasEntry, qualifies, pairOf, firstOf, foundAt, orElse, fromScale, patternOf}
 use Rattle.shortest.specs.Pair.{over-both, step, m-rises}
 use Rattle.shortest.specs.Scale.{scale-law}
-use Rattle.shortest.specs.Disk.{head-completes, entry-completes, qualifies-listed, qualifies-entry, qualifies-solves}
+use Rattle.pairing.specs.Disk.{head-completes, entry-completes, qualifies-listed, qualifies-entry, qualifies-solves}
 
 -- u in A and its conjugate in B, and u and t solve the equation of SPEC, "Other entry", at scale i
 pub record Pairs (j : Job) (i : ℕ) (u t : Point) : Type 0 where

@@ -1,10 +1,10 @@
 -- A session's meaning fixes the session: the contracts, which state the meaning of the session that a call leaves, leave no choice of it.
 use mathlib.Core.Path.{_≡_, refl, sym, ap, _∙_}
 use Rattle.ring.specs.declared.Point.{Point}
-use Rattle.walk.specs.declared.Spot.{Spot}
-use Rattle.walk.specs.declared.Spot.the-variants as P
-use Rattle.walk.specs.Walk.{pointOf, rankOf, spotOf}
-use Rattle.walk.specs.Points.{Fits32, point-rank}
+use Rattle.lists.specs.declared.Spot.{Spot}
+use Rattle.lists.specs.declared.Spot.the-variants as P
+use Rattle.lists.specs.Walk.{pointOf, rankOf, spotOf}
+use Rattle.lists.specs.Points.{Fits32, point-rank}
 use Rattle.stages.specs.declared.Course.{Course}
 use Rattle.stages.specs.declared.Parts.{Parts}
 use Rattle.stages.specs.declared.Stage.{Stage}

@@ -16,10 +16,10 @@ use Rattle.record.specs.Record.{readingOf}
 use Rattle.ranks.specs.Rest.{isEnded, ended-nil, leftAt}
 use Rattle.ranks.specs.Rank.{top}
 use Rattle.ranks.specs.Handed.{Gave}
-use Rattle.walk.specs.declared.Spot.{Spot}
-use Rattle.walk.specs.declared.Spot.the-variants as P
+use Rattle.lists.specs.declared.Spot.{Spot}
+use Rattle.lists.specs.declared.Spot.the-variants as P
 use Rattle.cuts.specs.Digits.{span}
-use Rattle.walk.specs.Walk.{listedAt, numbersOf, spotOf}
+use Rattle.lists.specs.Walk.{listedAt, numbersOf, spotOf}
 use Rattle.walk.specs.Hand.{gave-none}
 use Rattle.calls.specs.Session.{Call, handOut, refused, taken, handed, done, says, best, early, walking, joined, remembered, given, step, reading, lent}
 use Rattle.calls.specs.Session as Model

@@ -26,7 +26,7 @@ use Rattle.record.specs.declared.Reading as Read
 use Rattle.record.specs.declared.Reading.the-variants as RV
 use Rattle.ranks.specs.Rank.{top}
 use Rattle.cuts.specs.Digits.{span}
-use Rattle.walk.specs.Walk.{listedAt, numbersOf}
+use Rattle.lists.specs.Walk.{listedAt, numbersOf}
 use Rattle.shortest.specs.declared.Pattern.{Pattern}
 use Rattle.shortest.specs.declared.Pattern.the-variants as S
 use Rattle.shortest.specs.Pattern.{patternOf}

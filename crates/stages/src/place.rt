@@ -4,7 +4,7 @@ ghost use mathlib.Core.List.{[]};
 ghost use Rattle.calls.specs.Session.{step, rewind};
 ghost use Rattle.ranks.specs.Rest.{at, isEnded};
 ghost use mathlib.Core.Bool.{true};
-ghost use Rattle.walk.specs.Walk.{rankOf, spotOf};
+ghost use Rattle.lists.specs.Walk.{rankOf, spotOf};
 ghost use Rattle.stages.specs.World.{world};
 ghost use Rattle.stages.specs.Session.{courseOf, outcome};
 use crate::Answer;

@@ -3,7 +3,7 @@ ghost use mathlib.Core.Path.{_≡_};
 ghost use mathlib.Core.List.{[]};
 ghost use Rattle.record.specs.declared.Reading.the-variants as reading;
 ghost use Rattle.calls.specs.Session.{joined, remembered};
-ghost use Rattle.walk.specs.Walk.{spotOf};
+ghost use Rattle.lists.specs.Walk.{spotOf};
 ghost use Rattle.stages.specs.World.{world, turnAt, placeScale, placeSelection, placeRegion, partReading, operatorReading};
 ghost use Rattle.stages.specs.Session.{turnOf, outcome, outcomeOf};
 use operator::Operator;

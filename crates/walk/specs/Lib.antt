@@ -1,11 +1,3 @@
--- `Walk` has the definitions; `Points` the ranks of points; `Full` the theorem about the full list; `Search` what each level of the search promises; `Columns` what is kept of
--- columns; `Row` listed points of a row; `Hand` where a hand-out stands; `Brief` what a brief look tells.
-pub mod Walk
-pub mod Points
-pub mod Full
-pub mod Search
-pub mod Columns
+-- `Row` has listed points of a row; `Hand` where a hand-out stands.
 pub mod Row
 pub mod Hand
-pub mod Count
-pub mod Brief

@@ -20,8 +20,8 @@ use Rattle.ranks.specs.Members.{Rising}
 use Rattle.ranks.specs.Handed.{flat}
 use Rattle.points.specs.Points.{Fits32, pointOf, rankOf, numbersOf, point-rank}
 use Rattle.points.specs.Listed.{Listed, passing, all-unique}
-use Rattle.walk.specs.Walk.{full}
-use Rattle.walk.specs.Full.{listed-fits}
+use Rattle.lists.specs.Walk.{full}
+use Rattle.lists.specs.Full.{listed-fits}
 use Rattle.equation.specs.Equation.{completes, topScale}
 use Rattle.equation.specs.Size.{Within, half, solution-within}
 use Rattle.entry.specs.Entry.{full as entries}

@@ -20,7 +20,7 @@ use Rattle.ranks.specs.Handed.{flat}
 use Rattle.ranks.specs.Digits.{pair}
 use Rattle.ranks.specs.Rank.{rank}
 use Rattle.points.specs.Digits.{span}
-use Rattle.walk.specs.Walk.{numbersOf, full as listing}
+use Rattle.lists.specs.Walk.{numbersOf, full as listing}
 use Rattle.equation.specs.Equation.{squares, cross, completes}
 use Rattle.entry.specs.Entry.{full as entries}
 use Rattle.line.specs.Line.{pairOf, inRange, full}

@@ -1,4 +1,4 @@
-use Rattle.walk.specs.Walk.{full}
+use Rattle.lists.specs.Walk.{full}
 use mathlib.Core.Path.{refl}
 use borrow.Author.Needs.{needs}
 use Rattle.session.proofs.has_solution.Statement.{statement}

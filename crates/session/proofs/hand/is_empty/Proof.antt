@@ -5,7 +5,7 @@ use Prim.Native.Nat.{ℕ}
 use Rattle.ranks.specs.Rest.{at, isNil, leftAt}
 use Rattle.ranks.specs.Rank.{top}
 use Rattle.cuts.specs.Digits.{span}
-use Rattle.walk.specs.Walk.{listedAt, spotOf, full}
+use Rattle.lists.specs.Walk.{listedAt, spotOf, full}
 use borrow.Author.Needs.{needs}
 use Rattle.session.proofs.hand.is_empty.Statement.{statement}
 use Rattle.session.proofs.hand.is_empty.Tie as tie

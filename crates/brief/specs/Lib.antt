@@ -1,0 +1,2 @@
+-- `Brief` has what a brief look tells.
+pub mod Brief
