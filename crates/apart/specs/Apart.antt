@@ -7,7 +7,7 @@ use native.Mathlib.Omega.{arith}
 use lib.Dec.{T, le→leb}
 use lib.Signed.{ltZ}
 use lib.IntN.{ℤ, pos, negℤ, natAbs, _+ℤ_, _*ℤ_}
-use Rattle.integers.specs.Difference.{_≼_, _≺_}
+use Rattle.integers.specs.Difference.{_≼_}
 use Rattle.integers.specs.Order.{≺-irrefl}
 use Rattle.integers.specs.Size.{size-+, size-*≤}
 use Rattle.integers.specs.Ring.{poly, by-ring}

@@ -4,7 +4,7 @@ use mathlib.Core.Bool.{Bool, true, _&&_}
 use Prim.Native.Nat.{ℕ, zero, suc, _<_}
 use native.Mathlib.Decide.{decLt}
 use native.Mathlib.Omega.{arith}
-use Rattle.equation.specs.Tests.{both-true}
+use Rattle.integers.specs.Booleans.{both-true}
 
 abbrev pub every : ℕ → (ℕ → Bool) → Bool
 every zero t = true

@@ -9,9 +9,10 @@ use lib.IntN.{_+ℤ_, _-ℤ_, _*ℤ_, +ℤ-assoc}
 use lib.ListN.{length, take, drop}
 use lib.Seq.{take-at}
 use borrow.Author.Tests.{lt-ltb, le-ltb}
+use Rattle.integers.specs.Booleans.{both-true}
 use Rattle.ring.specs.declared.Point.{Point}
 use Rattle.equation.specs.Equation.{squares, cross, completes}
-use Rattle.equation.specs.Tests.{both-true, same-true}
+use Rattle.equation.specs.Tests.{same-true}
 use Rattle.ranges.specs.Ranges.{topScale}
 use Rattle.spelling.specs.Points.{N, F}
 use Rattle.spelling.specs.State.{Equation}
@@ -39,13 +40,6 @@ module _ (b : Bool) (v w : Word) where
   decide-first e h = rw (decided b false e, le-ltb _ _ h) refl
 
 -- ---- the tests, as `spell` computes them
-pub and-split : (a b : Bool) → a && b ≡ true → (a ≡ true) × (b ≡ true)
-and-split true b e = (refl, e)
-and-split false b e = let z : _≡_ {A = ℕ} 0 1 = cc in absurd (omega arith)
-
-pub and-first : (a b : Bool) → a && b ≡ true → a ≡ true
-and-first a b e = and-split a b e .0
-
 pub fits-is : (k : ℕ) (u t : Point) (m n : ℕ) {x y : Word} → Writes x (wordU k u t) → Writes y (wordTUT k u t) → leb (x .len) m && leb (y .len) n ≡ fit k u t m n
 fits-is k u t m n {x} {y} p q = ap₂ (λ a b. leb a m && leb b n) (p .len) (q .len)
 

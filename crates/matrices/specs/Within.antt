@@ -6,10 +6,10 @@ use native.Mathlib.Omega.{arith}
 use lib.Dec.{leb}
 use lib.IntN.{natAbs}
 use borrow.Author.Tests.{leb-true, le-leb}
+use Rattle.integers.specs.Booleans.{both-true}
 use Rattle.operator.specs.declared.Operator.{Operator}
 use Rattle.matrices.specs.declared.Entry.{Entry}
 use Rattle.matrices.specs.Matrix.{Matrix, at, matrixOf, productOf, determinantOf, entryWithin, isWithin, productWithin, determinantWithin}
-use Rattle.operator.specs.Accepted.{both-true}
 use Rattle.operator.specs.Bounded.{Fits16}
 use Rattle.matrices.specs.Bounded.{BoundedEntry, BoundedMatrix, matrix-bounded}
 

@@ -1,7 +1,7 @@
 -- What the test says of an operator that it accepts: the size of its numbers, its parity, its determinant.
 use mathlib.Core.Path.{_≡_, refl, sym, _∙_, ap, subst}
 use mathlib.Core.Logic.{_⊎_, inl, inr}
-use mathlib.Core.Bool.{Bool, true, false, cond, _&&_, _||_}
+use mathlib.Core.Bool.{Bool, true, false, cond, _||_}
 use Prim.Native.Nat.{ℕ, zero, suc, _≤_, zero-le}
 use native.Mathlib.Omega.{arith}
 use lib.Dec.{T, eqb}
@@ -11,16 +11,11 @@ use mir.Syntax.{Width}
 use mir.Val.{SFits, toZ, ofZ}
 use mir.Facts.{toZ-ofZ}
 use borrow.Author.Tests.{leb-true, le-leb, eq-eqb, ne-eqb}
-use Rattle.integers.specs.Difference.{_≼_}
+use Rattle.integers.specs.Booleans.{both-true}
 use Rattle.integers.specs.Order.{≼-antisym}
 use Rattle.operator.specs.declared.Operator.{Operator}
 use Rattle.operator.specs.declared.Check.the-variants.{Special, OutOfRange, OddParity, NotSpecial}
 use Rattle.operator.specs.Operator.{within, allWithin, inRange, evenParity, detWhole, detRoot, equalZ, special, checkOf}
-
-pub both-true : (x y : Bool) → x && y ≡ true → (x ≡ true) × (y ≡ true)
-both-true true true h = (refl, refl)
-both-true true false h = let z : _≡_ {A = ℕ} 0 1 = cc in absurd (omega arith)
-both-true false y h = let z : _≡_ {A = ℕ} 0 1 = cc in absurd (omega arith)
 
 either-true : (x y : Bool) → x || y ≡ true → (x ≡ true) ⊎ (y ≡ true)
 either-true true y h = inl refl

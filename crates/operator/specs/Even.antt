@@ -5,13 +5,13 @@ use mathlib.Core.Bool.{true}
 use mathlib.Core.List.{List, [], _∷_}
 use native.Mathlib.Omega.{arith}
 use lib.IntN.{ℤ, _+ℤ_, _-ℤ_, _*ℤ_}
+use Rattle.integers.specs.Booleans.{both-true}
 use Rattle.integers.specs.Difference.{by⊖, zz}
 use Rattle.integers.specs.Parity.{even, half, double-half, even-by}
 use Rattle.integers.specs.RingZ.{by-ring, polyZ}
 use Rattle.ring.specs.declared.Point.{Point}
 use Rattle.operator.specs.declared.Operator.{Operator}
 use Rattle.operator.specs.Operator.{evenParity, imageOf, ext}
-use Rattle.operator.specs.Accepted.{both-true}
 use Rattle.operator.specs.Halves.{halves}
 
 pub record Free : Type 0 where

@@ -22,7 +22,6 @@ use Rattle.operator.specs.Operator as Op
 use Rattle.kinds.specs.declared.Kind.{Kind}
 use Rattle.kinds.specs.declared.Kind.the-variants as K
 use Rattle.kinds.specs.declared.Turn.{Turn}
-use Rattle.kinds.specs.declared.Turn.the-variants as T
 use Rattle.record.specs.declared.Record.the-variants as Rec
 use Rattle.kinds.specs.declared.Refusal.the-variants.{NoKind, UnknownKind, OutOfRange, NotPositive, OddParity, NotSpecial, NoDirection}
 use Rattle.kinds.specs.declared.Admission.{Admission}

@@ -14,7 +14,7 @@ use Rattle.integers.specs.RingZ.{polyZ}
 use Rattle.integers.specs.RingZ as Z
 use Rattle.ring.specs.declared.RootTwo.{RootTwo}
 use Rattle.ring.specs.RootTwo.{_⊞_, _⊟_, _⊠_, neg, num, ring√, num-+, num-*, num-neg}
-use Rattle.ring.specs.RootTwo.Order.{_⊑_, nn-by, nn-+, nn-*, nn-num, nn-cancel, num-⊑, sq-⊑}
+use Rattle.ring.specs.RootTwo.Order.{nn-by, nn-+, nn-*, nn-num, nn-cancel, num-⊑, sq-⊑}
 use Rattle.ring.specs.RootTwo.Order as O
 use Rattle.lengths.specs.Products.{square, touches, touches-true}
 use Rattle.lengths.specs.Rounded.{Length}

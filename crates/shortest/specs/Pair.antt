@@ -1,9 +1,10 @@
 -- Pairs u and t that solve the equation: √2 divides u if and only if it divides t, so both have the same exponent; dividing both solves it one scale down.
 use mathlib.Core.Path.{_≡_, refl, sym, ap, ap₂, _∙_}
 use mathlib.Core.Bool.{true}
-use Prim.Native.Nat.{ℕ, zero, suc, _-_, _*_, _^_, _≤_}
+use Prim.Native.Nat.{ℕ, zero, suc, _-_, _^_, _≤_}
 use native.Mathlib.Omega.{arith}
 use lib.IntN.{pos, _+ℤ_, _-ℤ_, _*ℤ_, +ℤ-comm, +ℤ-assoc}
+use Rattle.integers.specs.Booleans.{both-true, both-of}
 use Rattle.ring.specs.declared.Point.{Point}
 use Rattle.ring.specs.declared.Quotient.{Quotient}
 use Rattle.ring.specs.declared.Quotient.the-variants.{Whole, NotInRing}
@@ -11,7 +12,7 @@ use Rattle.ring.specs.Point.{_*ω_, √2ω}
 use Rattle.ring.specs.Point.Divide.{divideRoot2, halves, divide-whole, divide-times, divide-not}
 use Rattle.ring.specs.Point.Exponent.{exponentOf, exponent-zero, exponent-whole, exponent-not, pulseCount, pulse-is}
 use Rattle.equation.specs.Equation.{same, squares, cross, completes}
-use Rattle.equation.specs.Tests.{both-true, both-of, same-true, true-same}
+use Rattle.equation.specs.Tests.{same-true, true-same}
 use Rattle.spelling.specs.Points.{N, F}
 use Rattle.spelling.specs.State.{Equation}
 use Rattle.spelling.specs.Equation.{equation-over}

@@ -2,11 +2,11 @@
 use mathlib.Core.Path.{_≡_, refl, sym, _∙_}
 use mathlib.Core.Bool.{true}
 use Prim.Native.Nat.{_^_}
+use Rattle.integers.specs.Booleans.{both-true}
 use Rattle.ring.specs.declared.RootTwo.{RootTwo}
 use Rattle.ring.specs.RootTwo.{_⊠_, conj}
 use Rattle.ring.specs.RootTwo.Sized.{Sized, conj-size}
 use Rattle.rows.specs.declared.Band.{Band}
-use Rattle.rows.specs.Both.{both-true}
 use Rattle.rows.specs.Steps.{solved, timesOf, Even, even-conj, scale-even}
 use Rattle.strips.specs.declared.Strips.{Strips}
 use Rattle.strips.specs.Strips.{Meets}

@@ -6,6 +6,7 @@ use mathlib.Core.Logic.{_⊎_, inl, inr}
 use mathlib.Core.List.{[], _∷_}
 use native.Mathlib.Omega.{arith}
 use lib.IntN.{ℤ, pos, negsuc, negℤ, _-ℤ_, _*ℤ_}
+use Rattle.integers.specs.Booleans.{both-true}
 use Rattle.integers.specs.Difference.{by⊖, zz, _≼_, _≺_}
 use Rattle.integers.specs.Order.{≼-trans}
 use Rattle.integers.specs.Ring.{poly, by-ring}
@@ -16,7 +17,6 @@ use Rattle.ring.specs.RootTwo.{_⊞_, _⊟_, _⊠_, neg, conj, num, √2, ring�
 use Rattle.ring.specs.RootTwo.Order.{Nn, nn-by, nn-+, nn-*, nn-num, nn-√2, nn-cancel, nn-zero, num-⊑}
 use Rattle.rows.specs.declared.Band.{Band}
 use Rattle.rows.specs.Row.{at, above, below}
-use Rattle.rows.specs.Both.{both-true}
 use Rattle.rows.specs.Steps.{solved, shiftOf, timesOf, conj-⊟, undo, inverse-sym, Even, even-unit, shift-holds, scale-even}
 
 -- ---- both steps: α₀, then u

@@ -1,9 +1,10 @@
 -- The rows that the walk through the scaled pairs passes over have no pair: what the walk asks for holds, and what it finds is said of the problem itself.
 use mathlib.Core.Path.{_≡_, refl, sym, _∙_, ap, subst, subst₂}
 use mathlib.Core.Bool.{Bool, true, false, false≢true, _&&_}
-use Prim.Native.Nat.{ℕ, _*_, _^_, _≤_}
+use Prim.Native.Nat.{ℕ, _^_, _≤_}
 use native.Mathlib.Omega.{arith}
 use lib.IntN.{ℤ, pos, negℤ, natAbs, _-ℤ_, _*ℤ_}
+use Rattle.integers.specs.Booleans.{both-true, both-of}
 use Rattle.integers.specs.Difference.{by⊖, zz, _≼_, _≺_}
 use Rattle.integers.specs.Size.{size--, size-*≤}
 use Rattle.ring.specs.declared.RootTwo.{RootTwo}
@@ -11,7 +12,7 @@ use Rattle.ring.specs.RootTwo.{conj, conj-parts}
 use Rattle.ring.specs.RootTwo.Sized.{conj-size, less-size, product-size}
 use Rattle.rows.specs.declared.Band.{Band}
 use Rattle.rows.specs.Row.{at, above, below, coordinate-mono}
-use Rattle.rows.specs.Both.{is-false, both-true, both-of}
+use Rattle.rows.specs.Both.{is-false}
 use Rattle.rows.specs.Steps.{solved, shiftOf, Even}
 use Rattle.thin.specs.declared.Interval.{Interval}
 use Rattle.thin.specs.Line.{bound, span, coordinate, accepted, inRange, solves, holds}

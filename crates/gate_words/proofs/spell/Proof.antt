@@ -3,9 +3,10 @@ use mathlib.Core.Bool.{true}
 use lib.Dec.{leb}
 use lib.ListN.{length}
 use borrow.Author.Tests.{leb-true}
+use Rattle.integers.specs.Booleans.{both-true}
 use Rattle.ranges.specs.Ranges.{topScale}
 use Rattle.equation.specs.Equation.{completes}
-use Rattle.gate_words.specs.Laws.{and-first, and-split, fits-is, unless, given, fails, holds, solves, out-of-range, not-unitary, spells}
+use Rattle.gate_words.specs.Laws.{fits-is, unless, given, fails, holds, solves, out-of-range, not-unitary, spells}
 use borrow.Author.Needs.{needs}
 use Rattle.gate_words.proofs.spell.Statement.{statement}
 use Rattle.gate_words.proofs.spell.Tie as tie
@@ -43,12 +44,14 @@ conjugate-word-requires : tie.Need-conjugate-word-requires
 conjugate-word-requires c κs = let a = c .before .before .before .before .before .before .before .args in (solves (a .k) (a .u) (a .t) (unitary (c .before)), leb-true _ _ (in-range (c .before)))
 
 lay-requires : tie.Need-lay-requires
-lay-requires c κs = (c .before .before .before .before .word .ensures .room, λ e. leb-true _ _ (search (and-first)))
+lay-requires c κs =
+    let w = c .before .before .before .before in
+    (w .word .ensures .room, λ e. leb-true _ _ (both-true (leb (w .word .result .len) (length (w .before .before .before .before .before .before .before .args .first .now))) _ e .0))
 
 lay-requires-2 : tie.Need-lay-requires-2
 lay-requires-2 c κs =
     let w = c .before .before .before .before .before .before .before .before in
-    (c .before .before .before .before .before .before .before .conjugate-word .ensures .room, λ e. leb-true _ _ (and-split (leb (w .word .result .len) (length (w .before .before .before .before .before .before .before .args .first .now))) _ e .1))
+    (c .before .before .before .before .before .before .before .conjugate-word .ensures .room, λ e. leb-true _ _ (both-true (leb (w .word .result .len) (length (w .before .before .before .before .before .before .before .args .first .now))) _ e .1))
 
 decide-requires : tie.Need-decide-requires
 decide-requires c κs = search needs

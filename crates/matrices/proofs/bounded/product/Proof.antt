@@ -1,7 +1,7 @@
 use mathlib.Core.Path.{_≡_, refl, sym, ap₂, _∙_}
 use mathlib.Core.Bool.{_&&_}
+use Rattle.integers.specs.Booleans.{both-true}
 use Rattle.matrices.specs.Matrix.{isWithin, productWithin}
-use Rattle.operator.specs.Accepted.{both-true}
 use Rattle.matrices.specs.Within.{within-bounded}
 use borrow.Author.Needs.{needs}
 use Rattle.matrices.proofs.bounded.product.Statement.{statement}
