@@ -8,10 +8,6 @@ ghost use Rattle.spelling.specs.Word.{syllables, without-T, bareAtZero, body, w
 ghost use Rattle.gates.specs.Written.{Adds, Writes};
 ghost use Rattle.gates.specs.Going.{Going};
 ghost use Rattle.gates.specs.Start.{lead, start};
-use clifford::Word;
-use clifford::empty;
-use clifford::push;
-use clifford::tail;
 use crate::letters::syllable;
 use crate::parity::bare;
 use crate::parity::odd;
@@ -21,6 +17,10 @@ use crate::points::over_omega;
 use crate::points::times_omega;
 use crate::states::next;
 use crate::states::reduce;
+use clifford::Word;
+use clifford::empty;
+use clifford::push;
+use clifford::tail;
 use ring::Point;
 use spelling::State;
 

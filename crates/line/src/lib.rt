@@ -11,10 +11,9 @@ ghost use Rattle.line.specs.Given.{Given};
 
 mod search;
 
-pub use thin::Interval;
-
 use search::Digits;
 use search::Spot;
+pub use thin::Interval;
 
 // Coordinates of a pair, and ends of an interval, lie within ±10,000.
 const HIGHEST: i32 = thin::BOUND as i32;

@@ -20,7 +20,10 @@ pub fn of(g: Operator) -> [[Entry; 2]; 2]
     ensures { λ r. ⌜ r ≡ matrixOf g ⌝ }
 {
     [
-        [matrix::minus(g.d, g.c, g.a), matrix::minus(g.di, g.ci, g.ai)],
+        [
+            matrix::minus(g.d, g.c, g.a),
+            matrix::minus(g.di, g.ci, g.ai),
+        ],
         [matrix::plus(g.b, g.c, g.a), matrix::plus(g.bi, g.ci, g.ai)],
     ]
 }
