@@ -13,9 +13,20 @@ pub enum Four {
     TooWide,
 }
 
-// The point of four numbers.
-pub fn point_of(a: i64, b: i64, c: i64, d: i64) -> Four {
-    let w = WidePoint { a, b, c, d };
+// The point of the four numbers from a place on, where they are there and fit.
+pub fn point_at(n: &[i64], at: usize) -> Four {
+    if n.len() < 4 {
+        return Four::TooWide;
+    }
+    if n.len() - 4 < at {
+        return Four::TooWide;
+    }
+    let w = WidePoint {
+        a: n[at],
+        b: n[at + 1],
+        c: n[at + 2],
+        d: n[at + 3],
+    };
     match w.narrow() {
         Narrowed::Fits(v) => Four::Point(v),
         Narrowed::TooWide => Four::TooWide,
@@ -40,14 +51,44 @@ pub fn byte_of(k: i64) -> Byte {
     Byte::Fits(k as u8)
 }
 
+// A byte and four numbers of 32 bits.
+pub enum Scaled {
+    Point(u8, Point),
+    TooWide,
+}
+
+// The scale and the point of the five numbers from a place on, where they are there and fit.
+pub fn scaled_at(n: &[i64], at: usize) -> Scaled {
+    if n.len() <= at {
+        return Scaled::TooWide;
+    }
+    let Byte::Fits(k) = byte_of(n[at]) else {
+        return Scaled::TooWide;
+    };
+    let Four::Point(v) = point_at(n, at + 1) else {
+        return Scaled::TooWide;
+    };
+    Scaled::Point(k, v)
+}
+
 // Three numbers of 32 bits.
 pub enum Ends {
     Interval(Interval),
     TooWide,
 }
 
-// The interval of three numbers: n, lo, hi.
-pub fn interval_of(n: i64, lo: i64, hi: i64) -> Ends {
+// The interval of the three numbers from a place on, n, lo, hi, where they are there and fit.
+pub fn interval_at(n: &[i64], at: usize) -> Ends {
+    if n.len() < 3 {
+        return Ends::TooWide;
+    }
+    if n.len() - 3 < at {
+        return Ends::TooWide;
+    }
+    interval_of(n[at], n[at + 1], n[at + 2])
+}
+
+fn interval_of(n: i64, lo: i64, hi: i64) -> Ends {
     let Narrow::Fits(n) = integers::to_i32(n) else {
         return Ends::TooWide;
     };
@@ -64,6 +105,16 @@ pub fn interval_of(n: i64, lo: i64, hi: i64) -> Ends {
 enum Shorts {
     Fit(i16, i16, i16, i16),
     TooWide,
+}
+
+fn shorts_at(n: &[i64], at: usize) -> Shorts {
+    if n.len() < 4 {
+        return Shorts::TooWide;
+    }
+    if n.len() - 4 < at {
+        return Shorts::TooWide;
+    }
+    shorts_of(n[at], n[at + 1], n[at + 2], n[at + 3])
 }
 
 fn shorts_of(a: i64, b: i64, c: i64, d: i64) -> Shorts {
@@ -88,12 +139,18 @@ pub enum Eight {
     TooWide,
 }
 
-// The numbers of G(1), then those of G(i).
-pub fn operator_of(a: i64, b: i64, c: i64, d: i64, ai: i64, bi: i64, ci: i64, di: i64) -> Eight {
-    let Shorts::Fit(a, b, c, d) = shorts_of(a, b, c, d) else {
+// The operator of the eight numbers from a place on, those of G(1), then those of G(i), where they are there and fit.
+pub fn operator_at(n: &[i64], at: usize) -> Eight {
+    if n.len() < 8 {
+        return Eight::TooWide;
+    }
+    if n.len() - 8 < at {
+        return Eight::TooWide;
+    }
+    let Shorts::Fit(a, b, c, d) = shorts_at(n, at) else {
         return Eight::TooWide;
     };
-    let Shorts::Fit(ai, bi, ci, di) = shorts_of(ai, bi, ci, di) else {
+    let Shorts::Fit(ai, bi, ci, di) = shorts_at(n, at + 4) else {
         return Eight::TooWide;
     };
     Eight::Operator(Operator {

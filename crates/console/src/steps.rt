@@ -42,8 +42,8 @@ fn answered(a: Answer) -> Line {
         Answer::Says(yes) => Line::Good(Value::Says(yes)),
         Answer::Refused(f) => Line::Refused(f.number()),
         Answer::Done => Line::Good(Value::Nothing),
-        Answer::Least(k, u, t) => Line::Good(Value::Pattern(k, u, t)),
-        Answer::Handed(count, ended) => Line::Good(Value::Points(count, ended)),
+        Answer::Least(k, u, t) => Line::Good(replies::of_pattern(k, u, t)),
+        Answer::Handed(count, ended) => Line::Good(replies::of_points(count, ended)),
     }
 }
 
@@ -134,7 +134,7 @@ fn alone(s: Session, c: usize, n: Numbers) -> Reply {
 fn propose(s: Session) -> Line {
     let g = s.stage;
     match g {
-        Stage::Walking(c) => Line::Good(Value::Operator(question::propose(c.job))),
+        Stage::Walking(c) => Line::Good(replies::of_operator(question::propose(c.job))),
         _ => Line::Refused(Refusal::NoJob.number()),
     }
 }
@@ -144,7 +144,8 @@ fn image(s: Session, n: Numbers) -> Line {
     if n.count != 4 {
         return Line::Bad;
     }
-    let v = arguments::point_of(n.values[0], n.values[1], n.values[2], n.values[3]);
+    let z = n.values;
+    let v = arguments::point_at(&z, 0);
     match v {
         Four::Point(w) => answered(held::has_image(s, w)),
         Four::TooWide => Line::Bad,

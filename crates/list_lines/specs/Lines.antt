@@ -38,3 +38,7 @@ endLine n = (101 ∷ 110 ∷ 100 ∷ 32 ∷ []) ++ countText n 10
 -- the line `refused R at P`
 unfoldable pub refusalLine : ℕ → ℕ → List ℕ
 refusalLine r p = (114 ∷ 101 ∷ 102 ∷ 117 ∷ 115 ∷ 101 ∷ 100 ∷ 32 ∷ []) ++ decimal r ++ (32 ∷ 97 ∷ 116 ∷ 32 ∷ []) ++ countText p 10
+
+-- the line `too long`
+abbrev pub tooLongLine : List ℕ
+tooLongLine = 116 ∷ 111 ∷ 111 ∷ 32 ∷ 108 ∷ 111 ∷ 110 ∷ 103 ∷ 10 ∷ []

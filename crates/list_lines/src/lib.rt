@@ -1,4 +1,4 @@
-// The lines that the list program prints: SPEC, "List program". A hand-out's points, the count at the end, a refusal.
+// The lines that the list program prints: SPEC, "List program". A hand-out's points, the count at the end, a refusal, an input that is too long.
 ghost use mathlib.Core.Path.{_≡_};
 ghost use Prim.Native.Nat.{_+_, _*_, _≤_};
 ghost use lib.ListN.{length, take};
@@ -8,7 +8,7 @@ ghost use Rattle.text.specs.Decimal.{decimal};
 ghost use Rattle.words.specs.Meaning.{sizeOf};
 ghost use Rattle.text.specs.Written.{written, after};
 ghost use Rattle.kinds.specs.Kinds.{number};
-ghost use Rattle.list_lines.specs.Lines.{coordinateText, countText, pointLine, pointAt, linesOf, endLine, refusalLine};
+ghost use Rattle.list_lines.specs.Lines.{coordinateText, countText, pointLine, pointAt, linesOf, endLine, refusalLine, tooLongLine};
 use kinds::Refusal;
 use ring::Point;
 use words::Size;
@@ -87,6 +87,13 @@ pub fn put_refusal(out: &mut [u8], at: usize, f: Refusal, place: usize) -> usize
     let mut line = [0u8; 64];
     let length = refusal_line(&mut line, f, place);
     text::put_bytes(out, at, &line[..length])
+}
+
+// `too long`.
+pub fn put_too_long(out: &mut [u8], at: usize) -> usize
+    ensures { λ r. ⌜ (now (out .exit) ≡ written (now (out .entry)) at tooLongLine) × (r ≡ after (now (out .entry)) at tooLongLine) ⌝ }
+{
+    text::put_bytes(out, at, b"too long\n")
 }
 
 fn end_line(line: &mut [u8], n: Size) -> usize

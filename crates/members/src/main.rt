@@ -34,7 +34,7 @@ fn right(s: &[u8], at: usize, row: Row) -> bool {
     let Byte::Fits(k) = arguments::byte_of(n[0]) else {
         return false;
     };
-    let Four::Point(v) = arguments::point_of(n[5], n[6], n[7], n[8]) else {
+    let Four::Point(v) = arguments::point_at(&n, 5) else {
         return false;
     };
     let Side::Slice(a) = slice_of(n[1], n[2], n[3], n[4]) else {

@@ -17,12 +17,12 @@ use Rattle.stages.specs.Session.{meaning}
 use Rattle.text.specs.Append.{Appended}
 use Rattle.words.specs.Meaning.{sizeOf, wrapped}
 use Rattle.input.specs.Load.{Loaded, ready, refused, tooLong}
-use Rattle.list_lines.specs.Lines.{endLine, refusalLine}
+use Rattle.list_lines.specs.Lines.{endLine, refusalLine, tooLongLine}
 use Rattle.listing.specs.Page.{pageOf, roomIn, scaleOf}
 use Rattle.output.specs.declared.Output.{Output}
 use Rattle.output.specs.declared.Output.the-variants as O
 use Rattle.output.specs.declared.Piece.{Piece}
-use Rattle.output.specs.Output.{tooLongLine, listLines}
+use Rattle.output.specs.Output.{listLines}
 
 -- one line alone; the solutions from a session on, after a number of them; the line at the end; nothing more
 pub data State : Type 0 where

@@ -14,7 +14,7 @@ pub(crate) fn part(o: Output, out: &mut [u8]) -> Piece
 {
     match o {
         Output::TooLong => {
-            let n = text::put_bytes(out, 0, b"too long\n");
+            let n = list_lines::put_too_long(out, 0);
             last(n)
         }
         Output::Refusal(f, at) => {

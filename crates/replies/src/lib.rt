@@ -20,13 +20,35 @@ pub enum Value {
     Two(i64, i64),
     Four(WidePoint),
     Eight(WidePoint, WidePoint),
-    Point(Point),
-    Operator(Operator),
     // A scale and two points.
-    Pattern(u8, Point, Point),
-    // Hand-outs of pairs and of points: the count, and whether it is the end.
-    Pairs(usize, bool),
-    Points(usize, bool),
+    Pattern(u8, WidePoint, WidePoint),
+    // A hand-out: the count, whether it is the end, and how many numbers were handed out.
+    Handed(usize, bool, usize),
+}
+
+// A point's four numbers.
+pub fn of_point(v: Point) -> Value {
+    Value::Four(widened(v))
+}
+
+// An operator's eight numbers: G(1), then G(i).
+pub fn of_operator(g: Operator) -> Value {
+    Value::Eight(column(g.a, g.b, g.c, g.d), column(g.ai, g.bi, g.ci, g.di))
+}
+
+// A scale and the numbers of two points.
+pub fn of_pattern(k: u8, u: Point, t: Point) -> Value {
+    Value::Pattern(k, widened(u), widened(t))
+}
+
+// A hand-out of pairs: the count, and whether it is the end.
+pub fn of_pairs(count: usize, ended: bool) -> Value {
+    Value::Handed(count, ended, twice(count))
+}
+
+// A hand-out of points.
+pub fn of_points(count: usize, ended: bool) -> Value {
+    Value::Handed(count, ended, twice(twice(count)))
 }
 
 // The line of an answer, and its length; the numbers of a hand-out are the first ones of `numbers`.
@@ -58,19 +80,23 @@ fn good(out: &mut [u8], v: Value, numbers: &[i32]) -> usize {
 
 fn put_value(out: &mut [u8], at: usize, v: Value, numbers: &[i32]) -> usize {
     match v {
-        Value::Nothing => at,
         Value::Says(yes) => yes_or_no(out, at, yes),
         Value::Unsigned(n) => unsigned(out, at, n),
         Value::Pair(m, n) => pair(out, at, m, n),
+        Value::Handed(count, ended, n) => handed(out, at, count, ended, numbers, n),
+        _ => put_signed(out, at, v),
+    }
+}
+
+// The values of signed numbers.
+fn put_signed(out: &mut [u8], at: usize, v: Value) -> usize {
+    match v {
         Value::One(z) => signed(out, at, z),
         Value::Two(p, q) => two(out, at, p, q),
         Value::Four(w) => four(out, at, w),
         Value::Eight(v, w) => eight(out, at, v, w),
-        Value::Point(u) => four(out, at, widened(u)),
-        Value::Operator(g) => columns(out, at, g),
         Value::Pattern(k, u, t) => pattern(out, at, k, u, t),
-        Value::Pairs(count, ended) => handed(out, at, count, ended, numbers, twice(count)),
-        Value::Points(count, ended) => handed(out, at, count, ended, numbers, twice(twice(count))),
+        _ => at,
     }
 }
 
@@ -112,12 +138,6 @@ fn eight(out: &mut [u8], at: usize, v: WidePoint, w: WidePoint) -> usize {
     four(out, at, w)
 }
 
-// G(1), then G(i).
-fn columns(out: &mut [u8], at: usize, g: Operator) -> usize {
-    let first = column(g.a, g.b, g.c, g.d);
-    eight(out, at, first, column(g.ai, g.bi, g.ci, g.di))
-}
-
 fn column(a: i16, b: i16, c: i16, d: i16) -> WidePoint {
     WidePoint {
         a: short(a),
@@ -131,9 +151,9 @@ fn short(z: i16) -> i64 {
     z as i64
 }
 
-fn pattern(out: &mut [u8], at: usize, k: u8, u: Point, t: Point) -> usize {
+fn pattern(out: &mut [u8], at: usize, k: u8, u: WidePoint, t: WidePoint) -> usize {
     let at = unsigned(out, at, k as u64);
-    eight(out, at, widened(u), widened(t))
+    eight(out, at, u, t)
 }
 
 fn widened(v: Point) -> WidePoint {

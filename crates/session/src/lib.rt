@@ -1,8 +1,7 @@
 // A session and its calls, by value: SPEC, "Walk" and "Calls". Each call's contract is one step of the model in `calls`.
-ghost use mathlib.Core.Path.{_≡_};
 ghost use mathlib.Core.List.{[]};
-ghost use Rattle.calls.specs.Session.{reading, rewind, clear, plain, imageOf, shortest};
-ghost use Rattle.stages.specs.Session.{fresh, Steps, Hands};
+ghost use Rattle.calls.specs.Session.{reading, rewind, plain, imageOf, shortest};
+ghost use Rattle.stages.specs.Session.{Steps, Hands};
 
 mod hand;
 
@@ -14,15 +13,8 @@ pub use stages::Outcome;
 pub use stages::Parts;
 pub use stages::Session;
 pub use stages::Stage;
-
-// A session that has read nothing.
-pub fn start() -> Session
-    ensures { λ r. ⌜ r ≡ fresh ⌝ }
-{
-    Session {
-        stage: Stage::Early(Parts::Nothing),
-    }
-}
+pub use stages::clear;
+pub use stages::start;
 
 // One reading: a record from the front of the bytes joins the session, or is refused.
 pub fn read(s: Session, bytes: &[u8]) -> Outcome
@@ -54,16 +46,6 @@ pub fn rewind(s: Session) -> Outcome
     match g {
         Stage::Early(_) => stages::refused(s, Refusal::NoJob),
         Stage::Walking(c) => stages::place::rewound(c),
-    }
-}
-
-// A fresh session again.
-pub fn clear(s: Session) -> Outcome
-    ensures { λ r. ⌜ Steps clear [] s (r .session) (r .answer) ⌝ }
-{
-    Outcome {
-        session: start(),
-        answer: Answer::Done,
     }
 }
 

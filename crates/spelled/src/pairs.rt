@@ -2,42 +2,57 @@
 use crate::pieces;
 use arguments::Byte;
 use arguments::Four;
+use arguments::Scaled;
 use gate_words::Part;
 use ring::Point;
 use table_rows::Row;
 
-// Whether the words, or the refusal, are the row's.
-pub fn right(s: &[u8], at: usize, r: Row) -> bool {
+// What a row asks for: the scale, u and t, and how many bytes of each slice are lent.
+struct Asked {
+    k: u8,
+    u: Point,
+    t: Point,
+    x: usize,
+    y: usize,
+}
+
+// The numbers of a row that fit, or not.
+enum Question {
+    Words(Asked),
+    TooWide,
+}
+
+fn asked_of(r: Row) -> Question {
     let n = r.numbers;
-    let Byte::Fits(k) = arguments::byte_of(n[0]) else {
-        return false;
+    let Scaled::Point(k, u) = arguments::scaled_at(&n, 0) else {
+        return Question::TooWide;
     };
-    let Four::Point(u) = arguments::point_of(n[1], n[2], n[3], n[4]) else {
-        return false;
-    };
-    let Four::Point(t) = arguments::point_of(n[5], n[6], n[7], n[8]) else {
-        return false;
+    let Four::Point(t) = arguments::point_at(&n, 5) else {
+        return Question::TooWide;
     };
     let Byte::Fits(x) = arguments::byte_of(n[9]) else {
-        return false;
+        return Question::TooWide;
     };
     let Byte::Fits(y) = arguments::byte_of(n[10]) else {
+        return Question::TooWide;
+    };
+    Question::Words(Asked {
+        k,
+        u,
+        t,
+        x: x as usize,
+        y: y as usize,
+    })
+}
+
+// Whether the words, or the refusal, are the row's.
+pub fn right(s: &[u8], at: usize, r: Row) -> bool {
+    let Question::Words(a) = asked_of(r) else {
         return false;
     };
     let mut first = [b'.'; 128];
     let mut second = [b'.'; 128];
-    answered(
-        s,
-        at,
-        r,
-        k,
-        u,
-        t,
-        &mut first,
-        &mut second,
-        x as usize,
-        y as usize,
-    )
+    answered(s, at, r, a, &mut first, &mut second)
 }
 
 // Whether the call's answer is the row's. The slices hold dots, and their first x and y bytes are lent.
@@ -45,21 +60,19 @@ fn answered<'a>(
     s: &[u8],
     at: usize,
     r: Row,
-    k: u8,
-    u: Point,
-    t: Point,
+    a: Asked,
     first: &'a mut [u8],
     second: &'a mut [u8],
-    x: usize,
-    y: usize,
 ) -> bool {
+    let x = a.x;
+    let y = a.y;
     if first.len() < x {
         return false;
     }
     if second.len() < y {
         return false;
     }
-    let p = gate_words::spell_part(k, u, t, &mut first[..x], &mut second[..y]);
+    let p = gate_words::spell_part(a.k, a.u, a.t, &mut first[..x], &mut second[..y]);
     is_answer(s, past_bars(s, at), r, p, first, second)
 }
 

@@ -10,22 +10,44 @@ pub fn right(s: &[u8], at: usize, r: Row) -> bool {
     if r.count != 17 {
         return false;
     }
+    let Matrix::State(x) = state_of(r) else {
+        return false;
+    };
+    is_tail(s, at, x)
+}
+
+// A row's matrix as a state, if its second column is that of one.
+enum Matrix {
+    State(State),
+    Other,
+}
+
+fn state_of(r: Row) -> Matrix {
     let n = r.numbers;
-    let Four::Point(u) = arguments::point_of(n[1], n[2], n[3], n[4]) else {
-        return false;
+    let Four::Point(u) = arguments::point_at(&n, 1) else {
+        return Matrix::Other;
     };
-    let Four::Point(b) = arguments::point_of(n[5], n[6], n[7], n[8]) else {
-        return false;
+    let Four::Point(t) = arguments::point_at(&n, 9) else {
+        return Matrix::Other;
     };
-    let Four::Point(t) = arguments::point_of(n[9], n[10], n[11], n[12]) else {
-        return false;
+    let l = phase_of(r, u, t);
+    if l < 8 {
+        let k = if n[0] == 0 { 0 } else { 1 };
+        return Matrix::State(State { k, u, t, l });
+    }
+    Matrix::Other
+}
+
+// The phase of a row's matrix with the first column u, t; 8 where it has none.
+fn phase_of(r: Row, u: Point, t: Point) -> u32 {
+    let n = r.numbers;
+    let Four::Point(b) = arguments::point_at(&n, 5) else {
+        return 8;
     };
-    let Four::Point(d) = arguments::point_of(n[13], n[14], n[15], n[16]) else {
-        return false;
+    let Four::Point(d) = arguments::point_at(&n, 13) else {
+        return 8;
     };
-    let k = if n[0] == 0 { 0 } else { 1 };
-    let l = phase(u, t, b, d);
-    l < 8 && is_tail(s, at, State { k, u, t, l })
+    phase(u, t, b, d)
 }
 
 // Whether the row begins with the tail of a state, and a bar.

@@ -1,9 +1,9 @@
-// What a session has read, what a call answers, and what both mean in the model of `calls`: SPEC, "Calls".
+// What a session has read, what a call answers, and what both mean in the model of `calls`: SPEC, "Calls". The fresh session, and the call that makes a session fresh.
 ghost use mathlib.Core.Path.{_≡_};
 ghost use mathlib.Core.List.{[]};
-ghost use Rattle.calls.specs.Session.{found};
+ghost use Rattle.calls.specs.Session.{found, clear};
 ghost use Rattle.stages.specs.World.{world, bestOf};
-ghost use Rattle.stages.specs.Session.{answerOf};
+ghost use Rattle.stages.specs.Session.{answerOf, fresh, Steps};
 
 pub mod place;
 
@@ -54,6 +54,25 @@ pub enum Answer {
 pub struct Outcome {
     pub session: Session,
     pub answer: Answer,
+}
+
+// A session that has read nothing.
+pub fn start() -> Session
+    ensures { λ r. ⌜ r ≡ fresh ⌝ }
+{
+    Session {
+        stage: Stage::Early(Parts::Nothing),
+    }
+}
+
+// A fresh session again.
+pub fn clear(s: Session) -> Outcome
+    ensures { λ r. ⌜ Steps clear [] s (r .session) (r .answer) ⌝ }
+{
+    Outcome {
+        session: start(),
+        answer: Answer::Done,
+    }
 }
 
 // A refused call changes nothing.

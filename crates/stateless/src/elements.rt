@@ -1,6 +1,6 @@
 // Numbers p + q√2 and points.
-use arguments::Byte;
 use arguments::Four;
+use arguments::Scaled;
 use operator::Operator;
 use record::Refusal;
 use replies::Line;
@@ -34,11 +34,8 @@ pub fn exponent(n: Numbers) -> Line {
     if n.count != 5 {
         return Line::Bad;
     }
-    let Four::Point(v) = arguments::point_of(n.values[1], n.values[2], n.values[3], n.values[4])
-    else {
-        return Line::Bad;
-    };
-    let Byte::Fits(k) = arguments::byte_of(n.values[0]) else {
+    let w = n.values;
+    let Scaled::Point(k, v) = arguments::scaled_at(&w, 0) else {
         return Line::Bad;
     };
     exponent_at(k, v)
@@ -57,8 +54,8 @@ pub fn point(c: usize, n: Numbers) -> Line {
     if n.count != 4 {
         return Line::Bad;
     }
-    let Four::Point(v) = arguments::point_of(n.values[0], n.values[1], n.values[2], n.values[3])
-    else {
+    let w = n.values;
+    let Four::Point(v) = arguments::point_at(&w, 0) else {
         return Line::Bad;
     };
     match c {
@@ -74,7 +71,7 @@ fn root(x: RootTwo) -> Value {
 
 fn quotient(q: Quotient) -> Value {
     match q {
-        Quotient::Whole(v) => Value::Point(v),
+        Quotient::Whole(v) => replies::of_point(v),
         Quotient::NotInRing => Value::Says(false),
     }
 }
@@ -86,9 +83,9 @@ pub fn named(c: usize, n: Numbers) -> Line {
     }
     match c {
         wording::LAMBDA => Line::Good(root(RootTwo::lambda())),
-        wording::OMEGA => Line::Good(Value::Point(Point::omega())),
-        wording::DELTA => Line::Good(Value::Point(Point::delta())),
-        wording::IDENTITY => Line::Good(Value::Operator(Operator::identity())),
+        wording::OMEGA => Line::Good(replies::of_point(Point::omega())),
+        wording::DELTA => Line::Good(replies::of_point(Point::delta())),
+        wording::IDENTITY => Line::Good(replies::of_operator(Operator::identity())),
         _ => Line::Bad,
     }
 }

@@ -1,11 +1,10 @@
 // The other entry of a matrix.
-use arguments::Byte;
 use arguments::Four;
+use arguments::Scaled;
 use entry::Answer;
 use entry::Place;
 use record::Refusal;
 use replies::Line;
-use replies::Value;
 use ring::Point;
 use wording::Numbers;
 use wording::Slice;
@@ -18,22 +17,19 @@ pub fn entry(n: Numbers, space: &mut [i32]) -> Line {
     if n.count != 10 {
         return Line::Bad;
     }
-    let Four::Point(p) = arguments::point_of(n.values[6], n.values[7], n.values[8], n.values[9])
-    else {
+    let w = n.values;
+    let Four::Point(p) = arguments::point_at(&w, 6) else {
         return Line::Bad;
     };
     entry_from(n, Place::After(p), space)
 }
 
 fn entry_from(n: Numbers, place: Place, space: &mut [i32]) -> Line {
-    let Byte::Fits(k) = arguments::byte_of(n.values[0]) else {
+    let w = n.values;
+    let Scaled::Point(k, v) = arguments::scaled_at(&w, 0) else {
         return Line::Bad;
     };
-    let Four::Point(v) = arguments::point_of(n.values[1], n.values[2], n.values[3], n.values[4])
-    else {
-        return Line::Bad;
-    };
-    let Slice::Length(l) = wording::lent(n.values[5]) else {
+    let Slice::Length(l) = wording::lent(w[5]) else {
         return Line::Bad;
     };
     entry_into(k, v, place, space, l)
@@ -45,7 +41,7 @@ fn entry_into(k: u8, v: Point, place: Place, space: &mut [i32], l: usize) -> Lin
     }
     let a = entry::hand_out(k, v, place, &mut space[..l]);
     match a {
-        Answer::Handed(count, ended) => Line::Good(Value::Points(count, ended)),
+        Answer::Handed(count, ended) => Line::Good(replies::of_points(count, ended)),
         Answer::Refused => Line::Refused(Refusal::OutOfRange.number()),
     }
 }

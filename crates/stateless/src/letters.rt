@@ -1,8 +1,8 @@
 // `word K`, the four numbers of u, those of t, `LENGTH LENGTH`: gate words.
 ghost use mathlib.Core.Path.{_≡_};
 ghost use lib.ListN.{length};
-use arguments::Byte;
 use arguments::Four;
+use arguments::Scaled;
 use gate_words::Part;
 use replies::put_bad;
 use ring::Point;
@@ -20,27 +20,45 @@ pub fn put_words(out: &mut [u8], line: &[u8], from: usize) -> usize {
     put_bad(out)
 }
 
+// The scale, u and t, and how many letters of each slice are lent.
+struct Asked {
+    k: u8,
+    u: Point,
+    t: Point,
+    l: usize,
+    m: usize,
+}
+
+// What the numbers of a line ask for.
+enum Question {
+    Words(Asked),
+    Bad,
+}
+
+fn asked_of(n: Numbers) -> Question {
+    let w = n.values;
+    let Scaled::Point(k, u) = arguments::scaled_at(&w, 0) else {
+        return Question::Bad;
+    };
+    let Four::Point(t) = arguments::point_at(&w, 5) else {
+        return Question::Bad;
+    };
+    let Slice::Length(l) = wording::lent(w[9]) else {
+        return Question::Bad;
+    };
+    let Slice::Length(m) = wording::lent(w[10]) else {
+        return Question::Bad;
+    };
+    Question::Words(Asked { k, u, t, l, m })
+}
+
 fn put_spelled(out: &mut [u8], n: Numbers) -> usize {
-    let Byte::Fits(k) = arguments::byte_of(n.values[0]) else {
-        return put_bad(out);
-    };
-    let Four::Point(u) = arguments::point_of(n.values[1], n.values[2], n.values[3], n.values[4])
-    else {
-        return put_bad(out);
-    };
-    let Four::Point(t) = arguments::point_of(n.values[5], n.values[6], n.values[7], n.values[8])
-    else {
-        return put_bad(out);
-    };
-    let Slice::Length(l) = wording::lent(n.values[9]) else {
-        return put_bad(out);
-    };
-    let Slice::Length(m) = wording::lent(n.values[10]) else {
+    let Question::Words(a) = asked_of(n) else {
         return put_bad(out);
     };
     let mut first = letter_buffer();
     let mut second = letter_buffer();
-    spelled(out, k, u, t, &mut first, &mut second, l, m)
+    spelled(out, a, &mut first, &mut second)
 }
 
 // The letters that a line may lend, each shown as a dot until it is written.
@@ -50,23 +68,16 @@ fn letter_buffer() -> [u8; 4096]
     [b'.'; 4096]
 }
 
-fn spelled<'a>(
-    out: &mut [u8],
-    k: u8,
-    u: Point,
-    t: Point,
-    first: &'a mut [u8],
-    second: &'a mut [u8],
-    l: usize,
-    m: usize,
-) -> usize {
+fn spelled<'a>(out: &mut [u8], a: Asked, first: &'a mut [u8], second: &'a mut [u8]) -> usize {
+    let l = a.l;
+    let m = a.m;
     if first.len() < l {
         return put_bad(out);
     }
     if second.len() < m {
         return put_bad(out);
     }
-    let p = gate_words::spell_part(k, u, t, &mut first[..l], &mut second[..m]);
+    let p = gate_words::spell_part(a.k, a.u, a.t, &mut first[..l], &mut second[..m]);
     if p.number != 0 {
         return replies::put_refused(out, p.number);
     }

@@ -30,13 +30,13 @@ pub fn operator(c: usize, n: Numbers) -> Line {
 // The operator of the first eight numbers.
 fn first_of(n: Numbers) -> Eight {
     let v = n.values;
-    arguments::operator_of(v[0], v[1], v[2], v[3], v[4], v[5], v[6], v[7])
+    arguments::operator_at(&v, 0)
 }
 
 // The operator of the last eight numbers.
 fn last_of(n: Numbers) -> Eight {
     let v = n.values;
-    arguments::operator_of(v[8], v[9], v[10], v[11], v[12], v[13], v[14], v[15])
+    arguments::operator_at(&v, 8)
 }
 
 // A value, for an operator that passes its test.
@@ -53,7 +53,7 @@ fn test(g: Operator, v: Value) -> Line {
 fn inverse_of(g: Operator) -> Line {
     let i = g.inverse();
     match i {
-        Inverse::Operator(h) => Line::Good(Value::Operator(h)),
+        Inverse::Operator(h) => Line::Good(replies::of_operator(h)),
         Inverse::Refused(_) => test(g, Value::Nothing),
     }
 }
@@ -84,8 +84,8 @@ pub fn apply(n: Numbers) -> Line {
     let Eight::Operator(g) = first_of(n) else {
         return Line::Bad;
     };
-    let Four::Point(v) = arguments::point_of(n.values[8], n.values[9], n.values[10], n.values[11])
-    else {
+    let w = n.values;
+    let Four::Point(v) = arguments::point_at(&w, 8) else {
         return Line::Bad;
     };
     test(g, Value::Four(g.image(v)))

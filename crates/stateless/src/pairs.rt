@@ -6,7 +6,6 @@ use line::Interval;
 use line::Place;
 use record::Refusal;
 use replies::Line;
-use replies::Value;
 use wording::Numbers;
 use wording::Slice;
 
@@ -28,14 +27,14 @@ pub fn line(n: Numbers, space: &mut [i32]) -> Line {
 }
 
 fn line_from(n: Numbers, place: Place, space: &mut [i32]) -> Line {
-    let Ends::Interval(first) = arguments::interval_of(n.values[0], n.values[1], n.values[2]) else {
+    let w = n.values;
+    let Ends::Interval(first) = arguments::interval_at(&w, 0) else {
         return Line::Bad;
     };
-    let Ends::Interval(second) = arguments::interval_of(n.values[3], n.values[4], n.values[5])
-    else {
+    let Ends::Interval(second) = arguments::interval_at(&w, 3) else {
         return Line::Bad;
     };
-    let Slice::Length(k) = wording::lent(n.values[6]) else {
+    let Slice::Length(k) = wording::lent(w[6]) else {
         return Line::Bad;
     };
     line_into(first, second, place, space, k)
@@ -47,7 +46,7 @@ fn line_into(first: Interval, second: Interval, place: Place, space: &mut [i32],
     }
     let a = line::pairs(first, second, place, &mut space[..k]);
     match a {
-        Answer::Handed(count, ended) => Line::Good(Value::Pairs(count, ended)),
+        Answer::Handed(count, ended) => Line::Good(replies::of_pairs(count, ended)),
         Answer::Refused => Line::Refused(Refusal::OutOfRange.number()),
     }
 }

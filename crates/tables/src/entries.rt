@@ -2,8 +2,8 @@
 use crate::handed;
 use crate::handed::Given;
 use crate::handed::Said;
-use arguments::Byte;
 use arguments::Four;
+use arguments::Scaled;
 use entry::Answer;
 use entry::Place;
 use ring::Point;
@@ -11,14 +11,14 @@ use table_rows::Row;
 
 // Whether the list of the other entries is the row's.
 pub fn right(row: Row, said: Said) -> bool {
-    let n = row.numbers;
     if row.before[1] == 5 {
         return answered(row, said, Place::Beginning, 5);
     }
     if row.before[1] != 9 {
         return false;
     }
-    let Four::Point(p) = arguments::point_of(n[5], n[6], n[7], n[8]) else {
+    let n = row.numbers;
+    let Four::Point(p) = arguments::point_at(&n, 5) else {
         return false;
     };
     answered(row, said, Place::After(p), 9)
@@ -26,17 +26,19 @@ pub fn right(row: Row, said: Said) -> bool {
 
 // Whether the answer after a place is the row's; the space is the row's number at `at`.
 fn answered(row: Row, said: Said, place: Place, at: usize) -> bool {
-    let n = row.numbers;
-    let Byte::Fits(k) = arguments::byte_of(n[0]) else {
-        return false;
-    };
-    let Four::Point(v) = arguments::point_of(n[1], n[2], n[3], n[4]) else {
-        return false;
-    };
     let mut out = [0i32; 400];
     let length = handed::twice(handed::twice(handed::lent(row, at)));
-    let g = given(k, v, place, &mut out, length);
+    let g = asked(row, place, &mut out, length);
     handed::is_answer(g, &out, row, said, at)
+}
+
+// The answer for a row's scale and point, into the first n numbers lent.
+fn asked(row: Row, place: Place, out: &mut [i32], n: usize) -> Given {
+    let z = row.numbers;
+    let Scaled::Point(k, v) = arguments::scaled_at(&z, 0) else {
+        return Given::NotCalled;
+    };
+    given(k, v, place, out, n)
 }
 
 fn given(k: u8, v: Point, place: Place, out: &mut [i32], n: usize) -> Given {

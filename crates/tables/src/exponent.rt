@@ -1,6 +1,6 @@
 // Rows `k a b c d e` and `k a b c d e m`.
 use arguments::Byte;
-use arguments::Four;
+use arguments::Scaled;
 use table_rows::Row;
 use table_rows::WIDTH;
 
@@ -24,10 +24,7 @@ fn is_pulse_count(e: i64, m: i64) -> bool {
 }
 
 fn is_exponent(n: [i64; WIDTH]) -> bool {
-    let Byte::Fits(k) = arguments::byte_of(n[0]) else {
-        return false;
-    };
-    let Four::Point(v) = arguments::point_of(n[1], n[2], n[3], n[4]) else {
+    let Scaled::Point(k, v) = arguments::scaled_at(&n, 0) else {
         return false;
     };
     v.exponent(k) as i64 == n[5]

@@ -13,7 +13,7 @@ pub struct Said {
 pub enum Given {
     Refused,
     Handed(usize, bool, usize),
-    // The row's slice is longer than any that is lent.
+    // The row's numbers do not fit, or its slice is longer than any that is lent.
     NotCalled,
 }
 

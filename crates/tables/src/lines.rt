@@ -29,22 +29,21 @@ pub fn right(row: Row, said: Said) -> bool {
 
 // Whether the answer after a place is the row's; the space is the row's number at `at`.
 fn answered(row: Row, said: Said, place: Place, at: usize) -> bool {
-    let n = row.numbers;
-    let Ends::Interval(first) = arguments::interval_of(n[0], n[1], n[2]) else {
-        return false;
-    };
-    let Ends::Interval(second) = arguments::interval_of(n[3], n[4], n[5]) else {
-        return false;
-    };
     let mut out = [0i32; 200];
-    let g = given(
-        first,
-        second,
-        place,
-        &mut out,
-        handed::twice(handed::lent(row, at)),
-    );
+    let g = asked(row, place, &mut out, handed::twice(handed::lent(row, at)));
     handed::is_answer(g, &out, row, said, at)
+}
+
+// The answer for a row's intervals, into the first n numbers lent.
+fn asked(row: Row, place: Place, out: &mut [i32], n: usize) -> Given {
+    let z = row.numbers;
+    let Ends::Interval(first) = arguments::interval_at(&z, 0) else {
+        return Given::NotCalled;
+    };
+    let Ends::Interval(second) = arguments::interval_at(&z, 3) else {
+        return Given::NotCalled;
+    };
+    given(first, second, place, out, n)
 }
 
 fn given(first: Interval, second: Interval, place: Place, out: &mut [i32], n: usize) -> Given {

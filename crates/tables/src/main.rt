@@ -21,15 +21,27 @@ enum Table {
 }
 
 fn main() {
-    compare_file(b"sign", b"sign.txt", Table::Signs);
-    compare_file(b"exponent", b"exponent.txt", Table::Exponents);
-    compare_file(b"op", b"op.txt", Table::Checks);
-    compare_file(b"apply", b"apply.txt", Table::Images);
-    compare_file(b"line", b"line.txt", Table::Lines);
-    compare_file(b"entry", b"entry.txt", Table::Entries);
+    compare_numbers();
+    compare_operators();
+    compare_lists();
     print_wide(0, 18446744073709551615);
     print_wide(1, 0);
     print_wide(18446744073709551615, 18446744073709551615);
+}
+
+fn compare_numbers() {
+    compare_file(b"sign", b"sign.txt", Table::Signs);
+    compare_file(b"exponent", b"exponent.txt", Table::Exponents);
+}
+
+fn compare_operators() {
+    compare_file(b"op", b"op.txt", Table::Checks);
+    compare_file(b"apply", b"apply.txt", Table::Images);
+}
+
+fn compare_lists() {
+    compare_file(b"line", b"line.txt", Table::Lines);
+    compare_file(b"entry", b"entry.txt", Table::Entries);
 }
 
 fn compare_file(name: &[u8], file: &[u8], table: Table) {

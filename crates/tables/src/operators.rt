@@ -18,12 +18,12 @@ pub fn check_right(row: Row) -> bool {
 
 // The operator that a row begins with.
 fn first_of(n: [i64; WIDTH]) -> Eight {
-    arguments::operator_of(n[0], n[1], n[2], n[3], n[4], n[5], n[6], n[7])
+    arguments::operator_at(&n, 0)
 }
 
 // The row's inverse.
 fn inverse_of(n: [i64; WIDTH]) -> Eight {
-    arguments::operator_of(n[17], n[18], n[19], n[20], n[21], n[22], n[23], n[24])
+    arguments::operator_at(&n, 17)
 }
 
 fn number(c: Check) -> i64 {
@@ -49,7 +49,7 @@ pub fn image_right(row: Row) -> bool {
 
 // Whether g sends the row's point to the row's image.
 fn sends(g: Operator, n: [i64; WIDTH]) -> bool {
-    let Four::Point(v) = arguments::point_of(n[8], n[9], n[10], n[11]) else {
+    let Four::Point(v) = arguments::point_at(&n, 8) else {
         return false;
     };
     let w = g.image(v);

@@ -14,11 +14,8 @@ use Rattle.output.proofs.fill.part.Tie as tie
 enum-told : tie.Need-enum-told
 enum-told c = search needs
 
-slice-aggregate-put-bytes : tie.Need-slice-aggregate-put-bytes
-slice-aggregate-put-bytes c = search needs
-
-put-bytes-requires : tie.Need-put-bytes-requires
-put-bytes-requires c κs = search needs
+put-too-long-requires : tie.Need-put-too-long-requires
+put-too-long-requires c κs = search needs
 
 last-requires : tie.Need-last-requires
 last-requires c κs = search needs
@@ -58,9 +55,9 @@ same-length c = search needs
 
 returns : tie.Need-returns
 returns c =
-    let s = c .before .before .before .before .before .before .before .before .before in
+    let s = c .before .before .before .before .before .before .before .before in
     let n = length (s .args .out .now) in
-    line-part (stateOf (s .args .o)) _ _ _ _ _ (ap (λ (o : Output). partOf n (stateOf o)) (c .before .before .before .before .before .before .enum-told .given .1)) (omega arith) (s .pre) (c .before .before .before .put-bytes .ensures) (c .last .ensures)
+    line-part (stateOf (s .args .o)) _ _ _ _ _ (ap (λ (o : Output). partOf n (stateOf o)) (c .before .before .before .before .before .enum-told .given .1)) (omega arith) (s .pre) (c .before .before .before .put-too-long .ensures) (c .last .ensures)
 
 same-length-2 : tie.Need-same-length-2
 same-length-2 c = search needs
@@ -106,8 +103,7 @@ part-spec =
     tie.close
     (tie.spec
     enum-told
-    slice-aggregate-put-bytes
-    put-bytes-requires
+    put-too-long-requires
     last-requires
     enum-known-o
     put-refusal-requires

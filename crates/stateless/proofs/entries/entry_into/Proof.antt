@@ -21,6 +21,9 @@ hand-out-requires c κs = search needs
 enum-known-a : tie.Need-enum-known-a
 enum-known-a c = search needs
 
+of-points-requires : tie.Need-of-points-requires
+of-points-requires c κs = search needs
+
 enum-told : tie.Need-enum-told
 enum-told c = search needs
 
@@ -48,6 +51,7 @@ entry-into-spec =
     slice-aggregate-hand-out
     hand-out-requires
     enum-known-a
+    of-points-requires
     enum-told
     number-requires
     same-length

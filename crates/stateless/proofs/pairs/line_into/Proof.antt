@@ -20,6 +20,9 @@ pairs-requires c κs = search needs
 enum-known-a : tie.Need-enum-known-a
 enum-known-a c = search needs
 
+of-pairs-requires : tie.Need-of-pairs-requires
+of-pairs-requires c κs = search needs
+
 enum-told : tie.Need-enum-told
 enum-told c = search needs
 
@@ -47,6 +50,7 @@ line-into-spec =
     slice-aggregate-pairs
     pairs-requires
     enum-known-a
+    of-pairs-requires
     enum-told
     number-requires
     same-length

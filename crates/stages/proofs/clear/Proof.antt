@@ -1,11 +1,11 @@
 use mathlib.Core.Path.{ap}
 use mathlib.Core.List.{[]}
 use borrow.Author.Needs.{needs}
 use Rattle.stages.specs.declared.Session.{Session}
 use Rattle.stages.specs.declared.Answer.the-variants.{Done}
 use Rattle.stages.specs.Session.{outcome}
-use Rattle.session.proofs.clear.Statement.{statement}
-use Rattle.session.proofs.clear.Tie as tie
+use Rattle.stages.proofs.clear.Statement.{statement}
+use Rattle.stages.proofs.clear.Tie as tie
 
 start-requires : tie.Need-start-requires
 start-requires c κs = search needs
