@@ -1,4 +1,4 @@
--- `Row` has the law of a row, for any strips; `Steps` the laws of a shift and of a scaling.
+-- `Row` has the law of a row, for any bands; `Steps` the laws of a shift and of a scaling.
 pub mod Both
 pub mod Row
 pub mod Steps

@@ -1,5 +1,5 @@
--- The two steps that Algorithm 2.2 of the Note takes before it counts a and b: the shift by α₀ (Lemma 2.3) and the scaling by λ^n (Lemma 2.4), over strips with ends
--- in Z[√2]. Each is an equation of two tests, so that no pair is lost and none is added, whatever the strips are: of one point, empty, or the wrong way round.
+-- The two steps that Algorithm 2.2 of the Note takes before it counts a and b: the shift by α₀ (Lemma 2.3) and the scaling by λ^n (Lemma 2.4), over bands with ends
+-- in Z[√2]. Each is an equation of two tests, so that no pair is lost and none is added, whatever the bands are: of one point, empty, or the wrong way round.
 use mathlib.Core.Path.{_≡_, refl, sym, _∙_, ap, ap₂, subst}
 use mathlib.Core.Bool.{Bool, true, false, not, false≢true, _&&_}
 use mathlib.Core.List.{[], _∷_}
@@ -17,7 +17,7 @@ use Rattle.rows.specs.Row.{at, above, below}
 abbrev pub meets : Band → RootTwo → Bool
 meets s z = above s z && below s z
 
--- the line problem over strips: z in the first and z• in the second
+-- the line problem over bands: z in the first and z• in the second
 abbrev pub solved : Band → Band → RootTwo → Bool
 solved s t z = meets s z && meets t (conj z)
 
@@ -67,7 +67,7 @@ same false false f g = refl
 sign-same : {u v : RootTwo} → Inverse u v → (x : RootTwo) → nonneg x ≡ nonneg (u ⊠ x)
 sign-same {u} {v} e x = same (nonneg x) (nonneg (u ⊠ x)) (λ h. nn-* (e .nn) (record { nn = h }) .nn) (λ h. nn-by (undo e x) (nn-* (e .inverse-nn) (record { nn = h })) .nn)
 
--- ---- strips times a number; a negative one exchanges the ends
+-- ---- bands times a number; a negative one exchanges the ends
 abbrev pub timesOf : Band → RootTwo → Band
 timesOf s u = record { m = s .m; lo = u ⊠ s .lo; hi = u ⊠ s .hi }
 
@@ -202,7 +202,7 @@ even-inverse (pos k) h = subst (Inverse (power lambda k)) (sym (power-conj lambd
 even-inverse (negsuc k) h =
     subst (Inverse (power mu (suc k))) (sym (power-conj mu lambda mu-conj (suc k) ∙ turn-signed (suc k) (power lambda (suc k)) ∙ ap (λ b. signed b (power lambda (suc k))) h)) (power-inverse (inverse-sym λ-inverse) (suc k))
 
--- ---- an even power of λ, positive or negative: no strip is turned
+-- ---- an even power of λ, positive or negative: no band is turned
 pub record Even (u : RootTwo) : Type 0 where
   pub n : ℤ
   pub parity : even n ≡ true

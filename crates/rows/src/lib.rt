@@ -1,4 +1,4 @@
-// A row of a line problem: the b with lo ≤ m·z ≤ hi in two strips, z = a + b√2 in the first and a − b√2 in the second, for a given a.
+// A row of a line problem: the b with lo ≤ m·z ≤ hi in two bands, z = a + b√2 in the first and a − b√2 in the second, for a given a.
 ghost use mathlib.Core.Path.{_≡_};
 ghost use Prim.Native.Nat.{ℕ, _^_, _≤_};
 ghost use lib.IntN.{natAbs};
@@ -32,7 +32,7 @@ pub fn below(s: Band, z: RootTwo) -> bool
     is_nonneg(offset(1, s.hi, s.m, z))
 }
 
-// Whether z is not below the one strip, and w not above the other.
+// Whether z is not below the one band, and w not above the other.
 fn bounded(s: Band, t: Band, z: RootTwo, w: RootTwo) -> bool
     requires { ⌜ Small s × Small t × Sized (2 ^ 41) (2 ^ 41) z × Sized (2 ^ 41) (2 ^ 41) w ⌝ }
     ensures { λ r. ⌜ r ≡ bounded s t z w ⌝ }

@@ -10,7 +10,7 @@ use Rattle.ring.specs.declared.RootTwo.{RootTwo}
 use Rattle.ring.specs.RootTwo.{_⊠_, neg}
 use Rattle.ring.specs.RootTwo.Power.{√2^}
 use Rattle.ring.specs.RootTwo.Sized.{Sized, Products, products, neg-size, sized-more, √2^-size}
-use Rattle.rows.specs.Row.{strip-ext}
+use Rattle.rows.specs.Row.{band-ext}
 use Rattle.region.specs.Over.{scale, scale-limits}
 use Rattle.strips.specs.Reach.{reachSize, Reaches}
 use Rattle.strips.specs.Strips.{Strip-of, power-size, strip-of}
@@ -82,7 +82,7 @@ returns c =
     let m : toZ w64 (c .before .before .before .scale .result) ≡ pos (scale r) = ap (toZ w64) (c .before .before .before .scale .ensures) ∙ toZ-pos w64 (omega arith) in
     let b = subst₂ (λ u v. Reaches r u v l) (d .before .before .opposite .ensures) (d .before .opposite2 .ensures) (d .over2 .ensures) in
     subst (Strip-of r k (s .args .u) (s .args .v))
-    (sym (strip-ext m (c .before .opposite3 .ensures ∙ ap neg (c .before .before .product .ensures ∙ ap (λ t. l ⊠ t) w)) (c .product2 .ensures ∙ ap (λ t. h ⊠ t) w)))
+    (sym (band-ext m (c .before .opposite3 .ensures ∙ ap neg (c .before .before .product .ensures ∙ ap (λ t. l ⊠ t) w)) (c .product2 .ensures ∙ ap (λ t. h ⊠ t) w)))
     (strip-of r k (s .args .u) (s .args .v) h l n (s .pre .1) (o .over .ensures) b)
 
 pub strip-spec : {M : Type 1} → statement M

@@ -8,7 +8,7 @@ use mir.Facts.{toZ-ofZ}
 use Rattle.integers.specs.Size.{size-*≤, size→fits}
 use Rattle.ring.specs.RootTwo.Sized.{room}
 use Rattle.rows.specs.declared.Band.{Band}
-use Rattle.rows.specs.Row.{strip-ext}
+use Rattle.rows.specs.Row.{band-ext}
 use Rattle.strips.specs.Strips.{endSize}
 use Rattle.question.proofs.lines.joined.Statement.{statement}
 use Rattle.question.proofs.lines.joined.Tie as tie
@@ -57,7 +57,7 @@ returns c =
     let d = a .before .before .before .before .before .before .before in
     let l = simp (toZ-ofZ (s-fits d), toZ-ofZ (t-fits d)) at (a .combined .ensures) in
     let h = simp (toZ-ofZ (s-fits d), toZ-ofZ (t-fits d)) at (c .combined2 .ensures) in
-    simp (toZ-ofZ (s-fits d), toZ-ofZ (t-fits d), toZ-ofZ (once d), toZ-ofZ (twice d)) (strip-ext refl l h)
+    simp (toZ-ofZ (s-fits d), toZ-ofZ (t-fits d), toZ-ofZ (once d), toZ-ofZ (twice d)) (band-ext refl l h)
 
 pub joined-spec : {M : Type 1} → statement M
 joined-spec =

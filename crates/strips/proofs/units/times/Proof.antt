@@ -5,7 +5,7 @@ use Rattle.integers.specs.Size.{size→fits}
 use mir.Syntax.{w64}
 use mir.Val.{SFits}
 use Rattle.ring.specs.RootTwo.Sized.{products}
-use Rattle.rows.specs.Row.{strip-ext}
+use Rattle.rows.specs.Row.{band-ext}
 use Rattle.strips.specs.Strips.{endSize}
 use Rattle.strips.proofs.units.times.Statement.{statement}
 use Rattle.strips.proofs.units.times.Tie as tie
@@ -20,7 +20,7 @@ returns : tie.Need-returns
 returns c =
     let s = c .before .before .before in
     let m : SFits w64 (s .args .s .m) = size→fits (omega (arith, s .pre .0 .scale)) in
-    strip-ext (toZ-ofZ m) (c .before .before .product .ensures) (c .before .product2 .ensures)
+    band-ext (toZ-ofZ m) (c .before .before .product .ensures) (c .before .product2 .ensures)
 
 pub times-spec : {M : Type 1} → statement M
 times-spec = tie.close (tie.spec product-requires product-requires-2 returns)
