@@ -1,3 +1,2 @@
--- `Sharp` has the sharper of lines; `Blocks` columns without a whole d.
+-- `Sharp` has the sharper of lines.
 pub mod Sharp
-pub mod Blocks
