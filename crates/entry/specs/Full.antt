@@ -4,8 +4,6 @@ use mathlib.Core.Bool.{true, false}
 use mathlib.Core.List.{List, []}
 use mathlib.Core.Logic.{_↔_}
 use Prim.Native.Nat.{ℕ, suc, _≤_}
-use native.Mathlib.Omega.{arith}
-use Rattle.integers.specs.Size.{size→fits}
 use Rattle.ring.specs.declared.Point.{Point}
 use Rattle.ring.specs.RootTwo.{_⊞_, _⊠_, num}
 use Rattle.ring.specs.RootTwo.Power.{√2^}
@@ -17,14 +15,12 @@ use Rattle.points.specs.Points.{Fits32, pointOf, rankOf, PointBefore, point-ord
 use Rattle.points.specs.Listed.{Listed, passing-holds, all-hold, all-unique, all-empty}
 use Rattle.equation.specs.Equation.{completes, topScale}
 use Rattle.equation.specs.Tests.{is-false}
-use Rattle.equation.specs.Size.{Within, half, bound, within-bound, solution-within, given-within}
+use Rattle.equation.specs.Size.{Within, half, within-bound, solution-within, given-within}
 use Rattle.equation.specs.Meaning.{twice|_|², unit-length}
-use Rattle.entry.specs.declared.Place.{Place}
-use Rattle.entry.specs.declared.Place.the-variants as P
+pub use Rattle.candidates.specs.Want.{within-fits}
+use Rattle.candidates.specs.declared.Place.{Place}
+use Rattle.candidates.specs.declared.Place.the-variants as P
 use Rattle.entry.specs.Entry.{full, left, startOf}
-
-pub within-fits : (w : Point) → Within bound w → Fits32 w
-within-fits w s = record { a = size→fits (omega (arith, s .a)); b = size→fits (omega (arith, s .b)); c = size→fits (omega (arith, s .c)); d = size→fits (omega (arith, s .d)) }
 
 module _ (k : ℕ) (ok : k ≤ topScale) (v : Point) where
   pub solution-fits : (w : Point) → completes k v w ≡ true → Fits32 w
