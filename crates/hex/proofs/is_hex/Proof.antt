@@ -1,10 +1,10 @@
 -- `is_hex` meets its contract. Assumes nothing.
 use mathlib.Core.Path.{_∙_}
 use mathlib.Core.List.{[]}
-use Rattle.text.proofs.Hexadecimal.{is-even, is-odd}
+use Rattle.hex.proofs.Hexadecimal.{is-even, is-odd}
 use borrow.Author.Needs.{needs}
-use Rattle.text.proofs.hex.is_hex.Statement.{statement}
-use Rattle.text.proofs.hex.is_hex.Tie as tie
+use Rattle.hex.proofs.is_hex.Statement.{statement}
+use Rattle.hex.proofs.is_hex.Tie as tie
 
 all-hex-requires : tie.Need-all-hex-requires
 all-hex-requires c κs = search needs

@@ -6,10 +6,10 @@ use native.Mathlib.Omega.{arith}
 use borrow.Author.Needs.{needs}
 use lib.ListN.{length, getD}
 use lib.Seq.{paste, paste-zero, length-paste}
-use Rattle.text.specs.Hex.{digitOf, pairs}
-use Rattle.text.proofs.Hexadecimal.{hex-even, all-each, length-pairs, put-more, put-all}
-use Rattle.text.proofs.hex.put_pairs.Statement.{statement}
-use Rattle.text.proofs.hex.put_pairs.Tie as tie
+use Rattle.hex.specs.Hex.{digitOf, pairs}
+use Rattle.hex.proofs.Hexadecimal.{hex-even, all-each, length-pairs, put-more, put-all}
+use Rattle.hex.proofs.put_pairs.Statement.{statement}
+use Rattle.hex.proofs.put_pairs.Tie as tie
 
 abbrev Inv-loop : tie.InvT-loop
 Inv-loop word out₀ n i₀ out i = (i ≤ length word / 2) × (out ≡ paste out₀ 0 (pairs word) i)

@@ -1,10 +1,10 @@
-// Bytes written as pairs of hexadecimal digits.
+// Hexadecimal pairs read: the bytes that a word spells, written to a slice that the caller lends.
 ghost use mathlib.Core.Path.{_≡_};
 ghost use mathlib.Core.Bool.{true};
 ghost use Prim.Native.Nat.{_/_, _≤_};
 ghost use lib.ListN.{length, drop};
 ghost use mathlib.Core.List.{_++_};
-ghost use Rattle.text.specs.Hex.{digitOf, allHex, pairs, isHex, hexOf, hexWritten};
+ghost use Rattle.hex.specs.Hex.{digitOf, allHex, pairs, isHex, hexOf, hexWritten};
 
 // How many bytes a word spells.
 pub enum Hex {

@@ -4,10 +4,10 @@ use mathlib.Core.Path.{_≡_, refl, sym, _∙_}
 use native.Mathlib.Omega.{arith}
 use borrow.Author.Needs.{needs}
 use lib.ListN.{length, drop}
-use Rattle.text.specs.Hex.{allHex}
-use Rattle.text.proofs.Hexadecimal.{all-end, all-not, all-more}
-use Rattle.text.proofs.hex.all_hex.Statement.{statement}
-use Rattle.text.proofs.hex.all_hex.Tie as tie
+use Rattle.hex.specs.Hex.{allHex}
+use Rattle.hex.proofs.Hexadecimal.{all-end, all-not, all-more}
+use Rattle.hex.proofs.all_hex.Statement.{statement}
+use Rattle.hex.proofs.all_hex.Tie as tie
 
 abbrev Inv-loop : tie.InvT-loop
 Inv-loop word i₀ i = allHex (drop i word) ≡ allHex word

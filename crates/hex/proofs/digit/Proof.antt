@@ -1,9 +1,9 @@
 -- `digit` meets its contract. Assumes nothing.
 use native.Mathlib.Omega.{arith}
 use borrow.Author.Needs.{needs}
-use Rattle.text.proofs.Hexadecimal.{digit-decimal, digit-upper, digit-lower, digit-none-1, digit-none-2, digit-none-3, digit-none-4}
-use Rattle.text.proofs.hex.digit.Statement.{statement}
-use Rattle.text.proofs.hex.digit.Tie as tie
+use Rattle.hex.proofs.Hexadecimal.{digit-decimal, digit-upper, digit-lower, digit-none-1, digit-none-2, digit-none-3, digit-none-4}
+use Rattle.hex.proofs.digit.Statement.{statement}
+use Rattle.hex.proofs.digit.Tie as tie
 
 sub-result : tie.Need-sub-result
 sub-result c = search needs

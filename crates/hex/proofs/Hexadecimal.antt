@@ -10,9 +10,9 @@ use borrow.Author.Tests.{le-leb, lt-leb, lt-ltb, le-ltb, ltb-true, eqb-true, eq-
 use lib.Dec.{ltb, eqb}
 use lib.ListN.{length, getD, drop, set, drop-of-length-le}
 use lib.Seq.{drop-cons, paste, paste-suc, take-all}
-use Rattle.text.specs.Hex.{digitOf, allHex, pairs, isHex, hexOf, hexWritten}
-use Rattle.text.specs.declared.hex.Hex.the-variants.{Bytes, Bad}
+use Rattle.hex.specs.Hex.{digitOf, allHex, pairs, isHex, hexOf, hexWritten}
+use Rattle.hex.specs.declared.Hex.the-variants.{Bytes, Bad}
 use Rattle.text.proofs.Writing.{put-fits, put-not}
 
 -- ---- one digit
 module _ (b : ℕ) where

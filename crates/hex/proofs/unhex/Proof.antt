@@ -2,11 +2,11 @@
 use mathlib.Core.Path.{_≡_, sym, _∙_}
 use mathlib.Core.Bool.{true}
 use borrow.Author.Tests.{not-true, not-false}
-use Rattle.text.specs.Hex.{isHex}
-use Rattle.text.proofs.Hexadecimal.{unhex-bad, unhex-full, unhex-good}
+use Rattle.hex.specs.Hex.{isHex}
+use Rattle.hex.proofs.Hexadecimal.{unhex-bad, unhex-full, unhex-good}
 use borrow.Author.Needs.{needs}
-use Rattle.text.proofs.hex.unhex.Statement.{statement}
-use Rattle.text.proofs.hex.unhex.Tie as tie
+use Rattle.hex.proofs.unhex.Statement.{statement}
+use Rattle.hex.proofs.unhex.Tie as tie
 
 is-hex-requires : tie.Need-is-hex-requires
 is-hex-requires c κs = search needs
