@@ -2,6 +2,7 @@
 ghost use mathlib.Core.Path.{_≡_};
 ghost use lib.ListN.{length};
 use arguments::Four;
+use hex::Hex;
 use record::Refusal;
 use replies::Line;
 use replies::Value;
@@ -9,7 +10,6 @@ use session::Answer;
 use session::Outcome;
 use session::Session;
 use session::Stage;
-use text::Hex;
 use wording::Numbers;
 use wording::Slice;
 
@@ -68,7 +68,7 @@ fn pairs(line: &[u8], first: usize, bytes: &mut [u8]) -> Hex {
     if rest < line.len() {
         return Hex::Bad;
     }
-    text::unhex(&line[first..end], bytes)
+    hex::unhex(&line[first..end], bytes)
 }
 
 fn read_bytes(s: Session, bytes: &[u8], n: usize) -> Reply {

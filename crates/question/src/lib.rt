@@ -6,9 +6,6 @@ ghost use Rattle.region.specs.Region.{acceptedJob};
 ghost use Rattle.reduction.specs.Undoing.{Undoing};
 ghost use Rattle.lists.specs.Walk.{full};
 
-mod halves;
-mod image;
-mod lines;
 mod search;
 
 use operator::Operator;

@@ -2,5 +2,4 @@ pub mod Signs
 pub mod Writing
 pub mod Digits
 pub mod Words
-pub mod Hexadecimal
 pub mod Lengths

@@ -1,5 +1,4 @@
--- What the contracts of `text` cite: numbers written, hexadecimal pairs read.
+-- What the contracts of `text` cite: numbers written.
 pub mod Decimal
 pub mod Written
-pub mod Hex
 pub mod Append

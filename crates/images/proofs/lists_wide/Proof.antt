@@ -1,6 +1,6 @@
 use mathlib.Core.Path.{sym, _∙_}
 use borrow.Author.Needs.{needs}
-use Rattle.question.specs.Image.{narrowed-listed, wide-unlisted}
+use Rattle.preimages.specs.Image.{narrowed-listed, wide-unlisted}
 use Rattle.images.proofs.lists_wide.Statement.{statement}
 use Rattle.images.proofs.lists_wide.Tie as tie
 
