@@ -1,10 +1,11 @@
 -- The two steps that Algorithm 2.2 of the Note takes before it counts a and b: the shift by α₀ (Lemma 2.3) and the scaling by λ^n (Lemma 2.4), over bands with ends
 -- in Z[√2]. Each is an equation of two tests, so that no pair is lost and none is added, whatever the bands are: of one point, empty, or the wrong way round.
 use mathlib.Core.Path.{_≡_, refl, sym, _∙_, ap, ap₂, subst}
-use mathlib.Core.Bool.{Bool, true, false, not, false≢true, _&&_}
+use mathlib.Core.Bool.{Bool, true, false, not, _&&_}
 use mathlib.Core.List.{[], _∷_}
 use Prim.Native.Nat.{ℕ, zero, suc}
 use lib.IntN.{ℤ, pos, negsuc, _+ℤ_, _*ℤ_}
+use Rattle.integers.specs.Booleans.{iff}
 use Rattle.integers.specs.Ring.{poly, by-ring}
 use Rattle.ring.specs.declared.RootTwo.{RootTwo}
 use Rattle.ring.specs.RootTwo.{_⊞_, _⊟_, _⊠_, neg, conj, num, √2, lambda, ring√, parts, num-parts, product-parts, √2-sq, conj-⊞, conj-⊠, conj-neg, conj-num, conj-√2}
@@ -59,13 +60,8 @@ undo {u} {v} e z = regroup u v z ∙ ap (λ t. t ⊠ z) (e .one) ∙ one-⊠ z
     regroup : (u v z : RootTwo) → v ⊠ (u ⊠ z) ≡ u ⊠ v ⊠ z
     regroup u v z = by-ring ring√ (u ∷ v ∷ z ∷ []) (search poly depth 30) refl
 
-same : (a b : Bool) → (a ≡ true → b ≡ true) → (b ≡ true → a ≡ true) → a ≡ b
-same true b f g = sym (f refl)
-same false true f g = absurd (false≢true (g refl))
-same false false f g = refl
-
 sign-same : {u v : RootTwo} → Inverse u v → (x : RootTwo) → nonneg x ≡ nonneg (u ⊠ x)
-sign-same {u} {v} e x = same (nonneg x) (nonneg (u ⊠ x)) (λ h. nn-* (e .nn) (record { nn = h }) .nn) (λ h. nn-by (undo e x) (nn-* (e .inverse-nn) (record { nn = h })) .nn)
+sign-same {u} {v} e x = iff (nonneg x) (nonneg (u ⊠ x)) (λ h. nn-* (e .nn) (record { nn = h }) .nn) (λ h. nn-by (undo e x) (nn-* (e .inverse-nn) (record { nn = h })) .nn)
 
 -- ---- bands times a number; a negative one exchanges the ends
 abbrev pub timesOf : Band → RootTwo → Band
