@@ -1,0 +1,2 @@
+-- Words as bytes, and as letters.
+pub mod Letters

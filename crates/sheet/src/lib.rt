@@ -1,0 +1,137 @@
+// Pattern sheets and their two readers: document 02, Ticket 14. A reading takes one sheet from the front of the bytes given, or refuses it.
+ghost use mathlib.Core.Path.{_≡_};
+ghost use Prim.Native.Nat.{_+_, _≤_};
+ghost use lib.ListN.{length};
+ghost use Rattle.ranges.specs.Ranges.{topScale};
+ghost use Rattle.sheet.specs.Sheet.{numberOf, kAt, pointAt, sheetAt, deskOf, crewOf, readingOf};
+use ring::Point;
+
+// The desk and the line crew.
+pub const DESK: u8 = 1;
+
+pub const CREW: u8 = 2;
+
+const KIND: u8 = 7;
+
+// The kind byte and the body.
+const LENGTH: usize = 38;
+
+// All that is written on a sheet.
+pub struct Sheet {
+    pub k: u8,
+    pub u: Point,
+    pub t: Point,
+    pub ticks: u32,
+}
+
+// Why a sheet is not read; the numbers are `numberOf` of specs/Sheet.
+pub enum Refusal {
+    NoKind,
+    NotASheet,
+    Short,
+    OutOfRange,
+    NotUnitary,
+    NoReader,
+}
+
+// What a reader sees, and the bytes taken: the desk the sheet, the crew its m and its ticks. A refusal takes none.
+pub enum Reading {
+    Desk(Sheet, usize),
+    Crew(u64, u32, usize),
+    Refused(Refusal),
+}
+
+impl Refusal {
+    pub fn number(self) -> u8
+        ensures { λ r. ⌜ r ≡ numberOf self ⌝ }
+    {
+        match self {
+            Refusal::NoKind => 1,
+            Refusal::NotASheet => 2,
+            Refusal::Short => 3,
+            Refusal::OutOfRange => 4,
+            Refusal::NotUnitary => 12,
+            Refusal::NoReader => 19,
+        }
+    }
+}
+
+// One reading.
+pub fn read(reader: u8, bytes: &[u8]) -> Reading
+    ensures { λ r. ⌜ r ≡ readingOf reader (now (bytes .entry)) ⌝ }
+{
+    if reader < DESK {
+        return Reading::Refused(Refusal::NoReader);
+    }
+    if CREW < reader {
+        return Reading::Refused(Refusal::NoReader);
+    }
+    if bytes.len() == 0 {
+        return Reading::Refused(Refusal::NoKind);
+    }
+    if bytes[0] != KIND {
+        return Reading::Refused(Refusal::NotASheet);
+    }
+    if bytes.len() < LENGTH {
+        return Reading::Refused(Refusal::Short);
+    }
+    if !ranges::scale(bytes[1]) {
+        return Reading::Refused(Refusal::OutOfRange);
+    }
+    if reader == DESK {
+        desk(bytes)
+    } else {
+        crew(bytes)
+    }
+}
+
+// The desk sees every field, of a sheet whose u and t make a unitary matrix.
+fn desk(s: &[u8]) -> Reading
+    requires { ⌜ (38 ≤ length (now s)) × (kAt (now s) ≤ topScale) ⌝ }
+    ensures { λ r. ⌜ r ≡ deskOf (now (s .entry)) ⌝ }
+{
+    let sheet = sheet_at(s);
+    if equation::completes(sheet.k, sheet.u, sheet.t) {
+        Reading::Desk(sheet, LENGTH)
+    } else {
+        Reading::Refused(Refusal::NotUnitary)
+    }
+}
+
+// The crew sees m and the ticks.
+fn crew(s: &[u8]) -> Reading
+    requires { ⌜ 38 ≤ length (now s) ⌝ }
+    ensures { λ r. ⌜ r ≡ crewOf (now (s .entry)) ⌝ }
+{
+    let k = s[1];
+    let u = point_at(s, 2);
+    let m = ring::pulse_count(u.exponent(k));
+    Reading::Crew(m, fields::u32_at(s, 34), LENGTH)
+}
+
+fn sheet_at(s: &[u8]) -> Sheet
+    requires { ⌜ 38 ≤ length (now s) ⌝ }
+    ensures { λ r. ⌜ r ≡ sheetAt (now (s .entry)) ⌝ }
+{
+    let u = point_at(s, 2);
+    let t = point_at(s, 18);
+    Sheet {
+        k: s[1],
+        u,
+        t,
+        ticks: fields::u32_at(s, 34),
+    }
+}
+
+// The four numbers from place i on.
+fn point_at(s: &[u8], i: usize) -> Point
+    requires { ⌜ i + 16 ≤ length (now s) ⌝ }
+    ensures { λ r. ⌜ r ≡ pointAt (now (s .entry)) i ⌝ }
+{
+    Point {
+        a: fields::i32_at(s, i),
+        b: fields::i32_at(s, i + 4),
+        c: fields::i32_at(s, i + 8),
+        d: fields::i32_at(s, i + 12),
+    }
+}

@@ -1,0 +1,71 @@
+// What words cost by a tariff, one word or a tray of them: document 02, Tickets 8 and 13.
+mod price;
+mod tray;
+
+ghost use mathlib.Core.Path.{_≡_};
+ghost use Rattle.tariff.specs.Tariff.{numberOf, answered, costOf};
+ghost use Rattle.tariff.specs.Tray.{trayOf};
+use price::Ticks;
+use price::word_ticks;
+use tray::is_tray;
+use tray::total;
+
+// The prices of the letters, in thousandths of a tick.
+pub struct Tariff {
+    pub h: u32,
+    pub s: u32,
+    pub t: u32,
+    pub w: u32,
+}
+
+// Why there is no cost; the numbers are `numberOf` of specs/Tariff.
+pub enum Refusal {
+    OutOfRange,
+    NotALetter,
+    NotATray,
+}
+
+// The cost in whole ticks, and whether the memory has as many.
+pub enum Answer {
+    Costs(u32, bool),
+    Refused(Refusal),
+}
+
+impl Refusal {
+    pub fn number(self) -> u8
+        ensures { λ r. ⌜ r ≡ numberOf self ⌝ }
+    {
+        match self {
+            Refusal::OutOfRange => 4,
+            Refusal::NotALetter => 15,
+            Refusal::NotATray => 18,
+        }
+    }
+}
+
+// What a number of ticks answers, of a memory.
+fn answered(t: Ticks, memory: u32) -> Answer
+    ensures { λ r. ⌜ r ≡ answered memory t ⌝ }
+{
+    match t {
+        Ticks::Sum(n) => Answer::Costs(n, n <= memory),
+        Ticks::Refused(why) => Answer::Refused(why),
+    }
+}
+
+// What a word costs, and whether it fits a memory.
+pub fn cost(tariff: Tariff, word: &[u8], memory: u32) -> Answer
+    ensures { λ r. ⌜ r ≡ costOf tariff (now (word .entry)) memory ⌝ }
+{
+    answered(word_ticks(tariff, word), memory)
+}
+
+// What the words of a tray cost together, each closed by a line feed, and whether they fit a memory together.
+pub fn tray_cost(tariff: Tariff, words: &[u8], memory: u32) -> Answer
+    ensures { λ r. ⌜ r ≡ trayOf tariff (now (words .entry)) memory ⌝ }
+{
+    if !is_tray(words) {
+        return Answer::Refused(Refusal::NotATray);
+    }
+    answered(total(tariff, words), memory)
+}
