@@ -30,29 +30,42 @@ pub fn print_count(fd: i32, bytes: &[u8]) {
     print_from(fd, o);
 }
 
-// A text, whole.
-pub fn print(fd: i32, text: &[u8]) {
-    io::write_all(fd, text);
+// A text, and whether all of it was taken.
+pub fn print(fd: i32, text: &[u8]) -> bool {
+    io::write_all(fd, text)
 }
 
-// Piece after piece until nothing is left.
+// A piece, and whether all of it was taken.
+struct Printed {
+    piece: Piece,
+    whole: bool,
+}
+
+// Piece after piece until nothing is left. After a write that failed nothing more is printed: a later piece would hide the points that are missing.
 fn print_from(fd: i32, from: Output) {
     let mut space = output_buffer();
     let out: &mut [u8] = &mut space;
     let mut o = from;
     while !output::is_done(o) {
         let p = print_piece(fd, o, out);
-        o = p.next;
+        if !p.whole {
+            return;
+        }
+        let q = p.piece;
+        o = q.next;
     }
 }
 
-fn print_piece(fd: i32, o: Output, out: &mut [u8]) -> Piece
-    ensures { λ r. ⌜ Filled (stateOf o) r (now (out .entry)) (now (out .exit)) ⌝ }
+fn print_piece(fd: i32, o: Output, out: &mut [u8]) -> Printed
+    ensures { λ r. ⌜ Filled (stateOf o) (r .piece) (now (out .entry)) (now (out .exit)) ⌝ }
 {
     let p = output::next(o, out);
     let n = p.length;
-    print(fd, &out[..n]);
-    p
+    let whole = print(fd, &out[..n]);
+    Printed {
+        piece: p,
+        whole: whole,
+    }
 }
 
 // Room for the lines of 1,024 points.

@@ -36,7 +36,7 @@ print-piece-requires c κs = search needs
 
 loop-less : tie.Need-loop-less Inv-loop μ-loop
 loop-less c =
-    let p = c .before .before in
+    let p = c .before .before .before .before .before in
     let t = p .before .before in
     let l = t .before .before in
     let n = l .loop .inv in
@@ -44,13 +44,16 @@ loop-less c =
 
 loop-again : tie.Need-loop-again Inv-loop μ-loop
 loop-again c =
-    let p = c .before .before in
+    let p = c .before .before .before .before .before in
     let l = p .before .before .before .before in
     let e : length (p .print-piece .last .1 .1 .0) ≡ length (l .loop .out) = search needs in
     e ∙ l .loop .inv
 
 returns : tie.Need-returns Inv-loop μ-loop
 returns c = tt
+
+returns-2 : tie.Need-returns-2 Inv-loop μ-loop
+returns-2 c = tt
 
 pub print-from-spec : {M : Type 1} → statement M
 print-from-spec =
@@ -63,6 +66,7 @@ print-from-spec =
     loop-holds
     is-done-requires
     print-piece-requires
+    returns
     loop-less
     loop-again
-    returns)
+    returns-2)

@@ -1,0 +1,24 @@
+use mathlib.Core.Path.{_∙_}
+use Rattle.bowujita.specs.Calls.{left-is}
+use borrow.Author.Needs.{needs}
+use Rattle.bowujita.proofs.bowujita_hand_out.Statement.{statement}
+use Rattle.bowujita.proofs.bowujita_hand_out.Tie as tie
+
+session-of-requires : tie.Need-session-of-requires
+session-of-requires c κs = search needs
+
+hand-out-requires : tie.Need-hand-out-requires
+hand-out-requires c κs = search needs
+
+leaving-requires : tie.Need-leaving-requires
+leaving-requires c κs = search needs
+
+same-length : tie.Need-same-length
+same-length c = search needs
+
+returns : tie.Need-returns
+returns c = let g = rw (c .before .before .before .before .session-of .ensures) at (c .before .before .hand-out .ensures) in record { met = left-is (c .leaving .ensures) _ ∙ g .met; slice = g .slice }
+
+pub bowujita-hand-out-spec : {M : Type 1} → statement M
+bowujita-hand-out-spec =
+    tie.close (tie.spec session-of-requires hand-out-requires leaving-requires same-length returns)

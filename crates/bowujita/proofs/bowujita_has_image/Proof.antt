@@ -1,0 +1,25 @@
+use Rattle.bowujita.specs.Calls.{asks-image}
+use mathlib.Core.List.{[]}
+use borrow.Author.Needs.{needs}
+use Rattle.bowujita.proofs.bowujita_has_image.Statement.{statement}
+use Rattle.bowujita.proofs.bowujita_has_image.Tie as tie
+
+session-of-requires : tie.Need-session-of-requires
+session-of-requires c κs = search needs
+
+point-of-requires : tie.Need-point-of-requires
+point-of-requires c κs = search needs
+
+has-image-requires : tie.Need-has-image-requires
+has-image-requires c κs = search needs
+
+reply-of-requires : tie.Need-reply-of-requires
+reply-of-requires c κs = search needs
+
+returns : tie.Need-returns
+returns c = rw (c .reply-of .ensures []) (asks-image (c .before .has-image .result) (c .before .before .before .session-of .ensures) (c .before .before .point-of .ensures) (c .before .has-image .ensures))
+
+pub bowujita-has-image-spec : {M : Type 1} → statement M
+bowujita-has-image-spec =
+    tie.close
+    (tie.spec session-of-requires point-of-requires has-image-requires reply-of-requires returns)

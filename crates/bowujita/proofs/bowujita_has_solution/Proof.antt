@@ -1,0 +1,20 @@
+use mathlib.Core.List.{[]}
+use borrow.Author.Needs.{needs}
+use Rattle.bowujita.proofs.bowujita_has_solution.Statement.{statement}
+use Rattle.bowujita.proofs.bowujita_has_solution.Tie as tie
+
+session-of-requires : tie.Need-session-of-requires
+session-of-requires c κs = search needs
+
+has-solution-requires : tie.Need-has-solution-requires
+has-solution-requires c κs = search needs
+
+reply-of-requires : tie.Need-reply-of-requires
+reply-of-requires c κs = search needs
+
+returns : tie.Need-returns
+returns c = rw (c .reply-of .ensures []) (rw (c .before .before .session-of .ensures) at (c .before .has-solution .ensures))
+
+pub bowujita-has-solution-spec : {M : Type 1} → statement M
+bowujita-has-solution-spec =
+    tie.close (tie.spec session-of-requires has-solution-requires reply-of-requires returns)

@@ -1,0 +1,53 @@
+-- What the calls without a session answer, as plain numbers.
+use mathlib.Core.Path.{_≡_}
+use mathlib.Core.Bool.{Bool, cond}
+use mathlib.Core.List.{List}
+use Prim.Native.Nat.{ℕ}
+use lib.Dec.{eqb}
+use lib.IntN.{ℤ}
+use Rattle.candidates.specs.declared.Place as EP
+use Rattle.candidates.specs.declared.Place.the-variants as E
+use Rattle.line.specs.declared.Place as LP
+use Rattle.line.specs.declared.Place.the-variants as L
+use Rattle.thin.specs.declared.Interval.{Interval}
+use Rattle.entry.specs.Entry as Entry
+use Rattle.line.specs.Line as Line
+use Rattle.gate_words.specs.declared.Part.{Part}
+use Rattle.gate_words.specs.Words.{Hands}
+use Rattle.numbers.specs.declared.Four.{Four}
+use Rattle.numbers.specs.Numbers.{isSet, pointOf}
+use Rattle.bowujita.specs.declared.Handed.{Handed}
+use Rattle.bowujita.specs.declared.Word.{Word}
+use Rattle.bowujita.specs.declared.Three.{Three}
+
+abbrev pub entryPlace : ℕ → Four → EP.Place
+entryPlace after v = cond (eqb after 0) E.Beginning (E.After (pointOf v))
+
+abbrev pub linePlace : ℕ → ℤ → ℤ → LP.Place
+linePlace after a b = cond (eqb after 0) L.Beginning (L.After a b)
+
+abbrev pub intervalOf : Three → Interval
+intervalOf i = record { n = i .n; lo = i .lo; hi = i .hi }
+
+abbrev pub handedAs : Handed → ℕ → Bool → ℕ → Type 0
+handedAs r count end number = (r .count ≡ count) × (isSet (r .ended) ≡ end) × (r .number ≡ number)
+
+pub record Entered (k : ℕ) (u : Four) (p : EP.Place) (old new : List ℤ) (r : Handed) : Type 0 where
+  pub values : record { count = r .count; end = isSet (r .ended); refusal = r .number } ≡ Entry.valuesAt k (pointOf u) p old
+  pub slice : new ≡ Entry.sliceOf k (pointOf u) p old
+
+pub record Lined (i j : Three) (p : LP.Place) (old new : List ℤ) (r : Handed) : Type 0 where
+  pub values : record { count = r .count; end = isSet (r .ended); refusal = r .number } ≡ Line.valuesOf (Line.answerOf (intervalOf i) (intervalOf j) p old)
+  pub slice : new ≡ Line.sliceOf (intervalOf i) (intervalOf j) p old
+
+abbrev pub partOf : Word → Part
+partOf w = record { number = w .number; second = isSet (w .second); len = w .length }
+
+abbrev pub Spelled : ℕ → Four → Four → List ℕ → List ℕ → List ℕ → List ℕ → Word → Type 0
+Spelled k u t a b a′ b′ w = Hands k (pointOf u) (pointOf t) a b a′ b′ (partOf w)
+
+pub entry-values : (r : Handed) {n m : ℕ} {e : Bool} → handedAs r n e m → _≡_ {A = Entry.Values} (record { count = r .count; end = isSet (r .ended); refusal = r .number }) (record { count = n; end = e; refusal = m })
+entry-values r h = λ i. record { count = h .0 i; end = h .1 i; refusal = h .2 i }
+
+pub line-values : (r : Handed) {n m : ℕ} {e : Bool} → handedAs r n e m → _≡_ {A = Line.Values} (record { count = r .count; end = isSet (r .ended); refusal = r .number }) (record { count = n; end = e; refusal = m })
+line-values r h = λ i. record { count = h .0 i; end = h .1 i; refusal = h .2 i }

@@ -1,0 +1,13 @@
+use mathlib.Core.Path.{refl}
+use borrow.Author.Needs.{needs}
+use Rattle.numbers.proofs.back.session_of.Statement.{statement}
+use Rattle.numbers.proofs.back.session_of.Tie as tie
+
+stage-of-requires : tie.Need-stage-of-requires
+stage-of-requires c κs = search needs
+
+returns : tie.Need-returns
+returns c = rw (c .stage-of .ensures) refl
+
+pub session-of-spec : {M : Type 1} → statement M
+session-of-spec = tie.close (tie.spec stage-of-requires returns)

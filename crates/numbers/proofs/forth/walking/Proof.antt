@@ -1,0 +1,29 @@
+use mathlib.Core.Path.{refl}
+use Rattle.numbers.specs.Numbers.{stageOf}
+use borrow.Author.Needs.{needs}
+use Rattle.numbers.proofs.forth.walking.Statement.{statement}
+use Rattle.numbers.proofs.forth.walking.Tie as tie
+
+eight-requires : tie.Need-eight-requires
+eight-requires c κs = search needs
+
+spotted-requires : tie.Need-spotted-requires
+spotted-requires c κs = search needs
+
+shape-of-requires : tie.Need-shape-of-requires
+shape-of-requires c κs = search needs
+
+shape-of-requires-2 : tie.Need-shape-of-requires-2
+shape-of-requires-2 c κs = search needs
+
+flag-requires : tie.Need-flag-requires
+flag-requires c κs = search needs
+
+returns : tie.Need-returns
+unfolding stageOf
+returns c = rw (c .flag .ensures, c .before .before .shape-of .ensures, c .before .shape-of2 .ensures, c .before .before .before .before .spotted .ensures, c .before .before .before .before .before .eight .ensures) refl
+
+pub walking-spec : {M : Type 1} → statement M
+walking-spec =
+    tie.close
+    (tie.spec eight-requires spotted-requires shape-of-requires shape-of-requires-2 flag-requires returns)
