@@ -6,8 +6,8 @@ ghost use lib.ListN.{length};
 use libc::STDIN_FILENO;
 use libc::STDOUT_FILENO;
 use replies::Line;
-use session::Session;
 use steps::Reply;
+use tallied::Tallied;
 
 fn main() {
     let mut space = input_buffer();
@@ -28,7 +28,7 @@ fn input_buffer() -> [u8; 131073]
 
 // Line by line, with one session that each call moves on.
 fn answer_all(s: &[u8]) {
-    let mut left = session::start();
+    let mut left = tallied::start();
     let mut at = 0;
     while at < s.len() {
         let end = scan::line_end(s, at);
@@ -37,7 +37,7 @@ fn answer_all(s: &[u8]) {
     }
 }
 
-fn answer(s: Session, line: &[u8]) -> Session {
+fn answer(s: Tallied, line: &[u8]) -> Tallied {
     if line.len() == 0 {
         return s;
     }
@@ -47,6 +47,10 @@ fn answer(s: Session, line: &[u8]) -> Session {
     let c = command_at(line);
     if c.name == wording::WORD {
         print_words(line, c.end);
+        return s;
+    }
+    if c.name == wording::TALLY {
+        print_tally(s, line, c.end);
         return s;
     }
     answer_to(s, c.name, line, c.end)
@@ -65,8 +69,8 @@ fn command_at(line: &[u8]) -> Command {
     Command { name, end }
 }
 
-// Every command but `word`, whose answer is letters.
-fn answer_to(s: Session, c: usize, line: &[u8], end: usize) -> Session {
+// Every command but `word`, whose answer is letters, and `tally`, whose answer is numbers of two words.
+fn answer_to(s: Tallied, c: usize, line: &[u8], end: usize) -> Tallied {
     let mut numbers = steps::number_buffer();
     let r = reply(s, c, line, end, &mut numbers);
     let l = r.line;
@@ -77,6 +81,12 @@ fn answer_to(s: Session, c: usize, line: &[u8], end: usize) -> Session {
 fn print_words(line: &[u8], end: usize) {
     let mut out = io::large_buffer();
     let n = stateless::put_words(&mut out, line, end);
+    write(&out, n);
+}
+
+fn print_tally(s: Tallied, line: &[u8], end: usize) {
+    let mut out = io::large_buffer();
+    let n = steps::put_tally(&mut out, s, line, end);
     write(&out, n);
 }
 
@@ -93,7 +103,7 @@ fn write(out: &[u8], n: usize) {
 }
 
 // The answer to a command; its arguments begin at `end`.
-fn reply(s: Session, c: usize, line: &[u8], end: usize, numbers: &mut [i32]) -> Reply {
+fn reply(s: Tallied, c: usize, line: &[u8], end: usize, numbers: &mut [i32]) -> Reply {
     match c {
         wording::READ => steps::read(s, line, end),
         wording::HAND

@@ -7,20 +7,20 @@ use record::Refusal;
 use replies::Line;
 use replies::Value;
 use session::Answer;
-use session::Outcome;
-use session::Session;
 use session::Stage;
+use tallied::Outcome;
+use tallied::Tallied;
 use wording::Numbers;
 use wording::Slice;
 
 // The session that a line leaves, and its answer.
 pub struct Reply {
-    pub session: Session,
+    pub session: Tallied,
     pub line: Line,
 }
 
 // A session that stays.
-pub fn same(s: Session, l: Line) -> Reply {
+pub fn same(s: Tallied, l: Line) -> Reply {
     Reply {
         session: s,
         line: l,
@@ -48,7 +48,7 @@ fn answered(a: Answer) -> Line {
 }
 
 // `read HEX`; with no word after it a reading of no bytes.
-pub fn read(s: Session, line: &[u8], from: usize) -> Reply {
+pub fn read(s: Tallied, line: &[u8], from: usize) -> Reply {
     let mut bytes = io::large_buffer();
     let first = scan::spaces_from(line, from);
     let h = pairs(line, first, &mut bytes);
@@ -71,7 +71,7 @@ fn pairs(line: &[u8], first: usize, bytes: &mut [u8]) -> Hex {
     hex::unhex(&line[first..end], bytes)
 }
 
-fn read_bytes(s: Session, bytes: &[u8], n: usize) -> Reply {
+fn read_bytes(s: Tallied, bytes: &[u8], n: usize) -> Reply {
     if bytes.len() < n {
         return same(s, Line::Bad);
     }
@@ -86,7 +86,7 @@ pub fn number_buffer() -> [i32; 4096]
 }
 
 // The commands with numbers, or with none.
-pub fn numbered(s: Session, c: usize, n: Numbers, space: &mut [i32]) -> Reply {
+pub fn numbered(s: Tallied, c: usize, n: Numbers, space: &mut [i32]) -> Reply {
     if !n.good {
         return same(s, Line::Bad);
     }
@@ -98,7 +98,7 @@ pub fn numbered(s: Session, c: usize, n: Numbers, space: &mut [i32]) -> Reply {
 }
 
 // `hand LENGTH`.
-fn hand(s: Session, n: Numbers, space: &mut [i32]) -> Reply {
+fn hand(s: Tallied, n: Numbers, space: &mut [i32]) -> Reply {
     if n.count != 1 {
         return same(s, Line::Bad);
     }
@@ -109,7 +109,7 @@ fn hand(s: Session, n: Numbers, space: &mut [i32]) -> Reply {
     }
 }
 
-fn hand_out(s: Session, space: &mut [i32], k: usize) -> Reply {
+fn hand_out(s: Tallied, space: &mut [i32], k: usize) -> Reply {
     if space.len() < k {
         return same(s, Line::Bad);
     }
@@ -117,7 +117,7 @@ fn hand_out(s: Session, space: &mut [i32], k: usize) -> Reply {
 }
 
 // `rewind`, `clear`, `plain`, `shortest`, `propose`, without a number.
-fn alone(s: Session, c: usize, n: Numbers) -> Reply {
+fn alone(s: Tallied, c: usize, n: Numbers) -> Reply {
     if n.count != 0 {
         return same(s, Line::Bad);
     }
@@ -131,8 +131,9 @@ fn alone(s: Session, c: usize, n: Numbers) -> Reply {
 }
 
 // The reduction's operator for the session's job.
-fn propose(s: Session) -> Line {
-    let g = s.stage;
+fn propose(s: Tallied) -> Line {
+    let w = s.session;
+    let g = w.stage;
     match g {
         Stage::Walking(c) => Line::Good(replies::of_operator(question::propose(c.job))),
         _ => Line::Refused(Refusal::NoJob.number()),
@@ -140,7 +141,7 @@ fn propose(s: Session) -> Line {
 }
 
 // `image A B C D`.
-fn image(s: Session, n: Numbers) -> Line {
+fn image(s: Tallied, n: Numbers) -> Line {
     if n.count != 4 {
         return Line::Bad;
     }
@@ -150,4 +151,17 @@ fn image(s: Session, n: Numbers) -> Line {
         Four::Point(w) => answered(held::has_image(s, w)),
         Four::TooWide => Line::Bad,
     }
+}
+
+// `tally`, without a number: the line that answers it, and its length.
+pub fn put_tally(out: &mut [u8], s: Tallied, line: &[u8], from: usize) -> usize {
+    let n = wording::numbers_from(line, from);
+    if n.good {
+        if n.count == 0 {
+            let t = held::tally(s);
+            let counts = t.counts;
+            return replies::put_counts(out, counts);
+        }
+    }
+    replies::put_bad(out)
 }

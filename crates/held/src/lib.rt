@@ -1,15 +1,18 @@
-// A session of one's own, lent to the calls of `lent`: each takes the session, lends it for the call, and has it back with the answer.
+// A bench's session of one's own, lent to the calls of `lent`: each takes the session, lends it for the call, and has it back with the answer.
 ghost use mathlib.Core.List.{[]};
 ghost use Rattle.calls.specs.Session.{reading, rewind as rewinding, clear as clearing, plain, imageOf, shortest as shortestOf};
-ghost use Rattle.stages.specs.Session.{Steps, Hands};
+ghost use mathlib.Core.Path.{_≡_};
+ghost use Rattle.stages.specs.Session.{Steps};
+ghost use Rattle.tallied.specs.Tallied.{Moves, Deals};
 use ring::Point;
 use session::Answer;
-use session::Outcome;
-use session::Session;
+use tallied::Outcome;
+use tallied::Tallied;
+use tally::Tally;
 
 // One reading: a record from the front of the bytes joins the session, or is refused.
-pub fn read(s: Session, bytes: &[u8]) -> Outcome
-    ensures { λ r. ⌜ Steps (reading (now (bytes .entry))) [] s (r .session) (r .answer) ⌝ }
+pub fn read(s: Tallied, bytes: &[u8]) -> Outcome
+    ensures { λ r. ⌜ Moves (reading (now (bytes .entry))) [] s (r .session) (r .answer) ⌝ }
 {
     let mut left = s;
     let answer = lent::read(&mut left, bytes);
@@ -20,8 +23,8 @@ pub fn read(s: Session, bytes: &[u8]) -> Outcome
 }
 
 // A hand-out: as many of the next listed points as the slice has space for.
-pub fn hand_out(s: Session, out: &mut [i32]) -> Outcome
-    ensures { λ r. ⌜ Hands s (now (out .entry)) (now (out .exit)) (r .session) (r .answer) ⌝ }
+pub fn hand_out(s: Tallied, out: &mut [i32]) -> Outcome
+    ensures { λ r. ⌜ Deals s (now (out .entry)) (now (out .exit)) (r .session) (r .answer) ⌝ }
 {
     let mut left = s;
     let answer = lent::hand_out(&mut left, out);
@@ -32,8 +35,8 @@ pub fn hand_out(s: Session, out: &mut [i32]) -> Outcome
 }
 
 // Back before the first point.
-pub fn rewind(s: Session) -> Outcome
-    ensures { λ r. ⌜ Steps rewinding [] s (r .session) (r .answer) ⌝ }
+pub fn rewind(s: Tallied) -> Outcome
+    ensures { λ r. ⌜ Moves rewinding [] s (r .session) (r .answer) ⌝ }
 {
     let mut left = s;
     let answer = lent::rewind(&mut left);
@@ -44,8 +47,8 @@ pub fn rewind(s: Session) -> Outcome
 }
 
 // A fresh session again.
-pub fn clear(s: Session) -> Outcome
-    ensures { λ r. ⌜ Steps clearing [] s (r .session) (r .answer) ⌝ }
+pub fn clear(s: Tallied) -> Outcome
+    ensures { λ r. ⌜ Moves clearing [] s (r .session) (r .answer) ⌝ }
 {
     let mut left = s;
     let answer = lent::clear(&mut left);
@@ -56,22 +59,29 @@ pub fn clear(s: Session) -> Outcome
 }
 
 // Whether the job lists a point.
-pub fn has_solution(s: Session) -> Answer
-    ensures { λ r. ⌜ Steps plain [] s s r ⌝ }
+pub fn has_solution(s: Tallied) -> Answer
+    ensures { λ r. ⌜ Steps plain [] (s .session) (s .session) r ⌝ }
 {
     lent::has_solution(&s)
 }
 
 // Whether w is what the remembered operator makes of a listed point.
-pub fn has_image(s: Session, w: Point) -> Answer
-    ensures { λ r. ⌜ Steps (imageOf w) [] s s r ⌝ }
+pub fn has_image(s: Tallied, w: Point) -> Answer
+    ensures { λ r. ⌜ Steps (imageOf w) [] (s .session) (s .session) r ⌝ }
 {
     lent::has_image(&s, w)
 }
 
 // The shortest pattern that the job allows.
-pub fn shortest(s: Session) -> Answer
-    ensures { λ r. ⌜ Steps shortestOf [] s s r ⌝ }
+pub fn shortest(s: Tallied) -> Answer
+    ensures { λ r. ⌜ Steps shortestOf [] (s .session) (s .session) r ⌝ }
 {
     lent::shortest(&s)
+}
+
+// The counts: how many of the points handed out since the last rewind or clearing have each exponent.
+pub fn tally(s: Tallied) -> Tally
+    ensures { λ r. ⌜ r ≡ s .tally ⌝ }
+{
+    lent::tally(&s)
 }

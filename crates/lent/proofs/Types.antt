@@ -1,15 +1,17 @@
--- The types of `session` as plain data: a session, an answer, the outcome that holds both, and a point.
+-- The types of `tallied` as plain data: the bench's session, an answer, the outcome that holds both, the counts, and a point.
 use mathlib.Core.Path.{ap}
 use denote.Steps.{only}
 use denote.Struct.Laws as LL
 use Rattle.ring.proofs.Point as P
 use Rattle.ring.proofs.Point.Laws as P′
-use Rattle.stages.proofs.Session as S
-use Rattle.stages.proofs.Session.Laws as S′
+use Rattle.tallied.proofs.Tallied as S
+use Rattle.tallied.proofs.Tallied.Laws as S′
+use Rattle.tally.proofs.Tally as T
+use Rattle.tally.proofs.Tally.Laws as T′
 use Rattle.stages.proofs.Answer as A
 use Rattle.stages.proofs.Answer.Laws as A′
-use Rattle.stages.proofs.Outcome as O
-use Rattle.stages.proofs.Outcome.Laws as O′
+use Rattle.tallied.proofs.Outcome as O
+use Rattle.tallied.proofs.Outcome.Laws as O′
 use Rattle.lent.proofs.Data.{Datum, Pair, struct, enum}
 
 abbrev pub session : Datum
@@ -17,6 +19,9 @@ session = struct S.the-type S′.the-laws S′.the-plain S′.the-copy
 
 abbrev pub answer : Datum
 answer = enum A.the-type A′.the-laws tt A′.the-plain A′.the-copy
+
+abbrev pub tally : Datum
+tally = struct T.the-type T′.the-laws T′.the-plain T′.the-copy
 
 abbrev pub point : Datum
 point = struct P.the-type P′.the-laws P′.the-plain P′.the-copy

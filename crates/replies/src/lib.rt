@@ -2,6 +2,7 @@
 use operator::Operator;
 use operator::WidePoint;
 use ring::Point;
+use words::Size;
 
 // A line that is not one of the commands', a refusal by its number, or what follows `ok`.
 pub enum Line {
@@ -69,6 +70,18 @@ pub fn put_bad(out: &mut [u8]) -> usize {
 pub fn put_refused(out: &mut [u8], number: u8) -> usize {
     let at = text::put_bytes(out, 0, b"refused");
     let at = unsigned(out, at, number as u64);
+    end(out, at)
+}
+
+// The line of a tally: its 21 counts.
+pub fn put_counts(out: &mut [u8], counts: [Size; 21]) -> usize {
+    let mut at = text::put_bytes(out, 0, b"ok");
+    let mut e = 0;
+    while e < 21 {
+        at = text::put_byte(out, at, b' ');
+        at = text::put_wide(out, at, counts[e]);
+        e += 1;
+    }
     end(out, at)
 }
 

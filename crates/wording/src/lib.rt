@@ -61,6 +61,8 @@ pub const WORD: usize = 24;
 
 pub const SHORTEST: usize = 25;
 
+pub const TALLY: usize = 26;
+
 // The numbers after the first word, at most 16, where the words are good.
 pub struct Numbers {
     pub values: [i64; 16],
@@ -88,7 +90,7 @@ pub fn command_of(word: &[u8]) -> usize
         word,
         b"read hand rewind clear plain image propose \
           sign line operator apply inverse matrix product determinant exponent \
-          real imaginary divide lambda omega delta identity entry word shortest",
+          real imaginary divide lambda omega delta identity entry word shortest tally",
     )
 }
 

@@ -9,6 +9,7 @@ use Rattle.lent.proofs.shortest as lent
 use Rattle.lent.proofs.shortest.Symbol as lent-def
 use Rattle.lent.proofs.shortest.Symbol.{name as #lent}
 use Rattle.lent.proofs.shortest.Met as lent-thm
+use Rattle.lent.proofs.Types.{answer}
 use Rattle.held.proofs.Look.{looks}
 use Rattle.held.proofs.shortest.Key.{name as #self}
 use Rattle.held.proofs.shortest as self
@@ -20,5 +21,5 @@ unfolding code.routine tablesOf
 shortest-spec 𝓤 H 𝓜 𝓖 𝓡 =
     entered 𝓤 H (tripleOf 𝓤 H (𝓖 .A) self.signature (self.spec 𝓤 H (𝓖 .A) (𝓜 .mem) (𝓡 .run)))
     (tables 𝓤 H 𝓜 𝓡 code.env .C) (tables 𝓤 H 𝓜 𝓡 code.env .Λ) #self code.function (code.unfolded 𝓤 H 𝓜 𝓡)
-    (looks #lent (λ s. Steps Model.shortest [] s s) 𝓤 H (𝓖 .A) (givenOf 𝓤 H 𝓜 𝓖) (tablesOf 𝓤 H 𝓜 (tables 𝓤 H 𝓜 𝓡 code.env))
+    (looks answer #lent (λ s. Steps Model.shortest [] (s .session) (s .session)) 𝓤 H (𝓖 .A) (givenOf 𝓤 H 𝓜 𝓖) (tablesOf 𝓤 H 𝓜 (tables 𝓤 H 𝓜 𝓡 code.env))
     (cited 𝓤 H (tripleOf 𝓤 H (𝓖 .A) lent.signature (lent.spec 𝓤 H (𝓖 .A) (𝓜 .mem) (𝓡 .run))) 𝓜 𝓡 code.env #lent lent-def.routine code.calls-lent·shortest (lent-thm.met 𝓤 H 𝓜 𝓖 𝓡)))
