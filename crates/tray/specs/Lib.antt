@@ -1,0 +1,4 @@
+-- `Session` has what a session and its answers mean in the model of `takes`; `Calls` the theorems of `takes` in the world of trays; `Run` calls of the code, one after another.
+pub mod Session
+pub mod Calls
+pub mod Run
