@@ -4,6 +4,9 @@ use libc::STDOUT_FILENO;
 
 fn main() {
     let mut input = printing::input_buffer();
-    let n = io::read_full(STDIN_FILENO, &mut input);
-    printing::print_list(STDOUT_FILENO, &input[..n]);
+    let got = printing::read(STDIN_FILENO, &mut input);
+    let n = got.at;
+    if !got.failed {
+        printing::print_list(STDOUT_FILENO, &input[..n]);
+    }
 }

@@ -33,7 +33,7 @@ part-goes n (list (early p) t) h = record { joined = ap endLine (kept-same (t + 
 part-goes n (list (walking j ended o) t) h = record { joined = ap endLine (kept-same (t + 0) h); small = tt }
 part-goes n (list (walking j (at p) o) t) h = page-goes j p o t (roomIn n) h (drop (roomIn n) (rest (listedAt j) (top span) p)) refl (left-place (listedAt j) (top span) (roomIn n) p)
 
-piece-goes : (n : ℕ) (s : State) → Small s → Goes s (pieceOf n s)
+pub piece-goes : (n : ℕ) (s : State) → Small s → Goes s (pieceOf n s)
 unfolding pieceOf
 piece-goes n s h = go (ltb n 126)
   where
@@ -49,13 +49,13 @@ printed-rest (piece {o} {r} {old} {new} {rest} f k) h =
     ap₂ _++_ (f .text .text) e ∙ g .joined
 
 -- ---- from the beginning
-begin-rest : (x : Loaded) → Begun x → restOf (begin x) ≡ outputFor x
+pub begin-rest : (x : Loaded) → Begun x → restOf (begin x) ≡ outputFor x
 begin-rest (ready (early p)) h = refl
 begin-rest (ready (walking j w o)) h = rw (h, zero-add) refl
 begin-rest (refused r p) h = refl
 begin-rest tooLong h = refl
 
-begin-small : (x : Loaded) → Begun x → Small (begin x)
+pub begin-small : (x : Loaded) → Begun x → Small (begin x)
 unfolding full
 begin-small (ready (early p)) h = lit≤ tt
 begin-small (ready (walking j w o)) h = rw (h, zero-add) (full-fewer j)

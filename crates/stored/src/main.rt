@@ -20,8 +20,8 @@ fn list_all(names: &[u8]) {
 }
 
 fn list_one(name: &[u8]) {
-    printing::print(STDOUT_FILENO, name);
-    printing::print(STDOUT_FILENO, b"\n");
+    io::write_all(STDOUT_FILENO, name);
+    io::write_all(STDOUT_FILENO, b"\n");
     let fd = os::open_read(name);
     if fd < 0 {
         os::fail(name);
