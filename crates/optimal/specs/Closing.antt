@@ -113,8 +113,11 @@ W-scales m = ext (first (m .a) (m .c)) (first (m .b) (m .d)) (second (m .a) (m .
     second : (x y : Point) → numω (pos 0) *ω x +ω ω *ω y ≡ ω *ω y
     second x y = by-ring ringω (x ∷ y ∷ ω ∷ []) (search poly depth 20) refl
 
+pub no-phase : (m : Matrix) → scale (ω^ 0) m ≡ m
+no-phase m = ext (*ω-one (m .a)) (*ω-one (m .b)) (*ω-one (m .c)) (*ω-one (m .d))
+
 W-left : (n : ℕ) (w : List Letter) (k : ℕ) (m : Matrix) → Spells w k m → Closed (Ts w) k (scale (ω^ n) m)
-W-left zero w k m s = record { word = w; Ts-are = refl; spells = subst (Spells w k) (ext (sym (*ω-one (m .a))) (sym (*ω-one (m .b))) (sym (*ω-one (m .c))) (sym (*ω-one (m .d)))) s }
+W-left zero w k m s = record { word = w; Ts-are = refl; spells = subst (Spells w k) (sym (no-phase m)) s }
 W-left (suc n) w k m s =
     let c = W-left n w k m s in
     record {
@@ -131,5 +134,5 @@ unphased w k n m s =
     record {
       word = c .word;
       Ts-are = c .Ts-are;
-      spells = subst (Spells (c .word) k) (scale-scale (ω^ (7 * n)) (ω^ n) m ∙ ap (λ x. scale x m) (sym (ω-+ (7 * n) n) ∙ ω-rest (7 * n + n) 0 e) ∙ ext (*ω-one (m .a)) (*ω-one (m .b)) (*ω-one (m .c)) (*ω-one (m .d))) (c .spells);
+      spells = subst (Spells (c .word) k) (scale-scale (ω^ (7 * n)) (ω^ n) m ∙ ap (λ x. scale x m) (sym (ω-+ (7 * n) n) ∙ ω-rest (7 * n + n) 0 e) ∙ no-phase m) (c .spells);
     }
