@@ -1,17 +1,15 @@
 -- S†, T†, X, Y and Z as letters of their own: each is a word in H, S, T and W of the same matrix, phase included, with as many T. So a word in these gates has a word in H, S, T and W of the same product with as many T.
 use mathlib.Core.Path.{_≡_, refl, sym, _∙_, ap, ap₂}
 use mathlib.Core.List.{List, [], _∷_, _++_}
-use Prim.Native.Nat.{ℕ, zero, suc, _+_, _≤_}
+use Prim.Native.Nat.{ℕ, suc, _+_, _≤_}
 use native.Mathlib.Omega.{arith}
 use lib.IntN.{pos, negsuc}
 use Rattle.integers.specs.Ring.{poly, by-ring}
 use Rattle.ring.specs.declared.Point.{Point}
-use Rattle.ring.specs.Point.{_+ω_, _*ω_, negω, numω, ω, √2ω, ringω, *ω-one, ω-fourth, √2ω-sq}
+use Rattle.ring.specs.Point.{_*ω_, negω, numω, ω, √2ω, ringω, *ω-one, ω-fourth, √2ω-sq}
 use Rattle.spelling.specs.Table.{Letter, H, S, T, W}
-use Rattle.spelling.specs.Matrix.{Matrix, _·_, scale, one, matrix, prefixed, product, Hs, √2^, ω^, Spells, made, ext, times-scale, prefixed-++, scale-swap}
-use Rattle.spelling.specs.Matrix.{counted as countedH}
-use Rattle.spelling.specs.Word.{word, Ts}
-use Rattle.spelling.specs.Word.{counted as countedT}
+use Rattle.spelling.specs.Matrix.{Matrix, _·_, scale, one, matrix, prefixed, product, Hs, √2^, ω^, Spells, made, ext, times-scale, prefixed-++, scale-swap, counted as countedH}
+use Rattle.spelling.specs.Word.{word, Ts, counted as countedT}
 use Rattle.optimal.specs.Equal.{one-right, factor, scale-times, scale-+}
 use Rattle.optimal.specs.Fewest.{phased-fewest}
 
