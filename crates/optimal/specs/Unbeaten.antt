@@ -2,7 +2,7 @@
 use mathlib.Core.Path.{_≡_, refl, sym, ap, subst, _∙_}
 use mathlib.Core.Bool.{true}
 use mathlib.Core.List.{List}
-use Prim.Native.Nat.{ℕ, zero, suc, _+_, _%_, _≤_, _<_}
+use Prim.Native.Nat.{ℕ, zero, suc, _+_, _*_, _/_, _%_, _≤_, _<_}
 use native.Mathlib.Omega.{arith}
 use native.Mathlib.Decide.{decLt}
 use Rattle.ring.specs.declared.Point.{Point}
@@ -29,7 +29,7 @@ use Rattle.shortest.specs.Minimal.{FoundBy, minimal, found-pair}
 use Rattle.lent_words.specs.Theorems.{handed-Ts}
 use Rattle.optimal.specs.Unitary.{column-spells, column-parity, spells-equation}
 use Rattle.optimal.specs.Fewest.{pulses}
-use Rattle.optimal.specs.Closing.{Closed, no-phase, unphased}
+use Rattle.optimal.specs.Closing.{Closed, no-phase, evened, unphased}
 use Rattle.optimal.specs.Handed.{handedWord, handed-has}
 use Rattle.optimal.specs.GateSet.{Gate, GateSpells, gateTs, lettersOf, gates-Ts, gates-spell}
 
@@ -54,6 +54,20 @@ pub record Meets (j : Job) (spelled : ℕ → Matrix → Type 0) : Type 0 where
   pub n : ℕ
   pub inside : Inside j i u
   pub spells : spelled i (scale (ω^ n) (made u t 0))
+
+-- every word with an even number of T is one such, where its u lies there
+pub record Special (w : List Letter) : Type 0 where
+  pub u : Point
+  pub t : Point
+  pub n : ℕ
+  pub spells : Spells w (Hs w) (scale (ω^ n) (made u t 0))
+
+pub even-special : (w : List Letter) → Ts w % 2 ≡ 0 → Special w
+even-special w h =
+    let n = run w .l / 2 in
+    let e : run w .l ≡ n * 2 = omega (arith, column-parity w) in
+    let f = evened n (run w .u) (run w .t) in
+    record { u = f .v; t = f .x; n = n; spells = subst (Spells w (Hs w)) (ap (made (run w .u) (run w .t)) e ∙ f .is) (column-spells w) }
 
 -- a word whose own product, of any determinant, has its upper left entry there
 abbrev pub Enters : Job → List Letter → Type 0
