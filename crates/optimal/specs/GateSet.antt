@@ -78,7 +78,7 @@ more X = 2
 more Y = 2
 more Z = 0
 
-abbrev mores : List Gate → ℕ
+abbrev pub mores : List Gate → ℕ
 mores [] = 0
 mores (x ∷ g) = more x + mores g
 
@@ -142,7 +142,7 @@ gate-is Y = Y-is
 gate-is Z = Z-is ∙ whole (gateMatrix Z)
 
 -- ---- a word in the gates, letter by letter
-gates-is : (g : List Gate) → product (lettersOf g) ≡ scale (√2^ (mores g)) (gateProduct g)
+pub gates-is : (g : List Gate) → product (lettersOf g) ≡ scale (√2^ (mores g)) (gateProduct g)
 gates-is [] = whole one
 gates-is (x ∷ g) =
     let m = gateMatrix x in
@@ -156,7 +156,7 @@ counted-more S i n = refl
 counted-more T i n = refl
 counted-more W i n = refl
 
-gates-Hs : (g : List Gate) → Hs (lettersOf g) ≡ mores g + gateHs g
+pub gates-Hs : (g : List Gate) → Hs (lettersOf g) ≡ mores g + gateHs g
 gates-Hs [] = refl
 gates-Hs (letter x ∷ g) = let e : mores g ≡ 0 + mores g = omega arith in ap (countedH x) (gates-Hs g) ∙ counted-more x (mores g) (gateHs g) ∙ ap (λ n. n + countedH x (gateHs g)) e
 gates-Hs (S† ∷ g) = omega (arith, gates-Hs g)

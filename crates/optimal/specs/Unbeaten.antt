@@ -1,15 +1,16 @@
 -- No word in H, S, T and W, of any length and at any scale, does with fewer T than the shortest pattern: SPEC, "Shortest pattern".
 use mathlib.Core.Path.{_≡_, refl, sym, ap, subst, _∙_}
 use mathlib.Core.Bool.{true}
-use mathlib.Core.List.{List}
+use mathlib.Core.List.{List, [], _∷_}
 use Prim.Native.Nat.{ℕ, zero, suc, _+_, _*_, _/_, _%_, _≤_, _<_}
 use native.Mathlib.Omega.{arith}
 use native.Mathlib.Decide.{decLt}
+use Rattle.integers.specs.Ring.{poly, by-ring}
 use Rattle.ring.specs.declared.Point.{Point}
 use Rattle.ring.specs.declared.Quotient.{Quotient}
 use Rattle.ring.specs.declared.Quotient.the-variants.{Whole, NotInRing}
 use Rattle.ring.specs.RootTwo.Power.{√2^, turn}
-use Rattle.ring.specs.Point.{√2x, √2y, conjω}
+use Rattle.ring.specs.Point.{_*ω_, √2ω, √2x, √2y, conjω, ringω, *ω-one}
 use Rattle.ring.specs.Point.Divide.{divideRoot2, halves, divide-whole}
 use Rattle.ring.specs.Point.Exponent.{exponentOf, exponent-zero, exponent-not, pulseCount}
 use Rattle.region.specs.declared.Job.{Job}
@@ -19,6 +20,7 @@ use Rattle.region.specs.Selection.{exponent-most}
 use Rattle.equation.specs.Equation.{completes}
 use Rattle.spelling.specs.Table.{Letter}
 use Rattle.spelling.specs.Matrix.{Matrix, scale, product, Hs, ω^, Spells, made}
+use Rattle.spelling.specs.Matrix as W
 use Rattle.spelling.specs.Word.{Ts}
 use Rattle.spelling.specs.Run.{run, product-run}
 use Rattle.shortest.specs.declared.Pattern.the-variants as P
@@ -31,7 +33,7 @@ use Rattle.optimal.specs.Unitary.{column-spells, column-parity, spells-e
 use Rattle.optimal.specs.Fewest.{pulses}
 use Rattle.optimal.specs.Closing.{Closed, no-phase, evened, unphased}
 use Rattle.optimal.specs.Handed.{handedWord, handed-has}
-use Rattle.optimal.specs.GateSet.{Gate, GateSpells, gateTs, lettersOf, gates-Ts, gates-spell}
+use Rattle.optimal.specs.GateSet.{Gate, gateProduct, gateHs, gateTs, GateSpells, lettersOf, mores, gates-is, gates-Hs, gates-Ts, gates-spell}
 
 -- u = v/√2^i lies in A and its conjugate in B: SPEC, "Membership", at any scale
 pub record Inside (j : Job) (i : ℕ) (v : Point) : Type 0 where
@@ -72,6 +74,9 @@ even-special w h =
 -- a word whose own product, of any determinant, has its upper left entry there
 abbrev pub Enters : Job → List Letter → Type 0
 Enters j w = Inside j (Hs w) (product w .a)
+
+abbrev pub GatesEnter : Job → List Gate → Type 0
+GatesEnter j g = Inside j (gateHs g) (gateProduct g .a)
 
 -- ---- down to the exponent
 record Lowest (j : Job) (e : ℕ) : Type 0 where
@@ -161,6 +166,30 @@ module _ (j : Job) (w : List Letter) (m : Enters j w) where
 
   pub beyond-any : j .k ≤ topScale → patternOf j ≡ P.Missing → pulseCount (suc (j .k)) ≤ Ts w + Ts w % 2
   beyond-any k f = omega (arith, missing-most j (Hs w) (run w .u) (run w .t) (run w .l) w own (column-spells w) k f, column-parity w)
+
+-- of any word in the gates: that of its letters has the same entry, over a higher power of √2
+raised : (j : Job) (n i : ℕ) (v : Point) → Inside j i v → Inside j (n + i) (W.√2^ n *ω v)
+raised j zero i v m =
+    let e : i ≡ 0 + i = omega arith in
+    subst (λ h. Inside j h (W.√2^ 0 *ω v)) e (subst (Inside j i) (sym (*ω-one v)) m)
+raised j (suc n) i v m =
+    let e : suc (n + i) ≡ suc n + i = omega arith in
+    let x = W.√2^ n *ω v in
+    let r = raised j n i v m in
+    subst (λ h. Inside j h (W.√2^ (suc n) *ω v)) e (subst (Inside j (suc (n + i))) (last (W.√2^ n) v √2ω) (record { first = Scale.first j (n + i) x ∙ r .first; second = Scale.second j (n + i) x ∙ r .second }))
+  where
+    last : (x y z : Point) → x *ω y *ω z ≡ x *ω z *ω y
+    last x y z = by-ring ringω (x ∷ y ∷ z ∷ []) (search poly depth 20) refl
+
+module _ (j : Job) (g : List Gate) (m : GatesEnter j g) where
+  gates-enter : Enters j (lettersOf g)
+  gates-enter = subst (λ x. Inside j (Hs (lettersOf g)) (x .a)) (sym (gates-is g)) (subst (λ h. Inside j h (W.√2^ (mores g) *ω gateProduct g .a)) (sym (gates-Hs g)) (raised j (mores g) (gateHs g) (gateProduct g .a) m))
+
+  pub gates-unbeaten-any : (s : ℕ) (u t : Point) → patternOf j ≡ P.Found s u t → pulseCount s ≤ gateTs g + gateTs g % 2
+  gates-unbeaten-any s u t f = rw (gates-Ts g) at (unbeaten-any j (lettersOf g) gates-enter s u t f)
+
+  pub gates-beyond-any : j .k ≤ topScale → patternOf j ≡ P.Missing → pulseCount (suc (j .k)) ≤ gateTs g + gateTs g % 2
+  gates-beyond-any k f = rw (gates-Ts g) at (beyond-any j (lettersOf g) gates-enter k f)
 
 -- ---- and a word has as many: the one that is handed back for the pattern, that of U or of TUT†
 pub record Attained (j : Job) (s : ℕ) (w : List Letter) : Type 0 where

@@ -25,7 +25,7 @@ use Rattle.shortest.specs.Pattern.{at}
 use Rattle.shortest.specs.Minimal.{found-pair}
 use Rattle.optimal.specs.GateSet.{Gate, GateSpells, gateTs}
 use Rattle.optimal.specs.Handed.{handedWord}
-use Rattle.optimal.specs.Unbeaten.{Meets, Enters, unbeaten, unbeaten-any, gates-unbeaten, attained, beyond-all, beyond-any, gates-beyond-all}
+use Rattle.optimal.specs.Unbeaten.{Meets, Enters, GatesEnter, unbeaten, unbeaten-any, gates-unbeaten, gates-unbeaten-any, attained, beyond-all, beyond-any, gates-beyond-all, gates-beyond-any}
 use Rattle.kinds.specs.declared.Refusal.the-variants.{NoPattern}
 use Rattle.calls.specs.Session.{whole, shortest, refused}
 use Rattle.calls.specs.Session as Model
@@ -73,6 +73,7 @@ pub record HasFewest (ms : List Made) (m : ℕ) (written : List ℕ) : Type 0 wh
   pub fewest-gates : (g : List Gate) → Meets job (GateSpells g) → m ≤ gateTs g
   -- of any determinant: one T may be spared where their number is odd
   pub fewest-any : (w : List Letter) → Enters job w → m ≤ Ts w + Ts w % 2
+  pub fewest-gates-any : (g : List Gate) → GatesEnter job g → m ≤ gateTs g + gateTs g % 2
 
 -- `shortest` answers k, u and t
 module _ {ms : List Made} {s : Session} (r : Run ms s) (k : ℕ) (u t : Point) (h : Steps shortest [] s s (A.Least k u t)) where
@@ -94,6 +95,7 @@ module _ {ms : List Made} {s : Session} (r : Run ms s) (k : ℕ) (u t : Point) (
         fewest = λ v m. unbeaten (c .job) v m k u t f;
         fewest-gates = λ g m. gates-unbeaten (c .job) g m k u t f;
         fewest-any = λ v m. unbeaten-any (c .job) v m k u t f;
+        fewest-gates-any = λ g m. gates-unbeaten-any (c .job) g m k u t f;
       }
 
   -- what `words` hands back, in any two slices that it does not refuse
@@ -121,6 +123,7 @@ pub record AllBeyond (ms : List Made) : Type 0 where
   pub beyond : (w : List Letter) → Meets job (Spells w) → pulseCount (suc (job .k)) ≤ Ts w
   pub beyond-gates : (g : List Gate) → Meets job (GateSpells g) → pulseCount (suc (job .k)) ≤ gateTs g
   pub beyond-any : (w : List Letter) → Enters job w → pulseCount (suc (job .k)) ≤ Ts w + Ts w % 2
+  pub beyond-gates-any : (g : List Gate) → GatesEnter job g → pulseCount (suc (job .k)) ≤ gateTs g + gateTs g % 2
 
 pub run-beyond : {ms : List Made} {s : Session} → Run ms s → Steps shortest [] s s (A.Refused NoPattern) → AllBeyond ms
 run-beyond {s} r h =
@@ -133,4 +136,5 @@ run-beyond {s} r h =
       beyond = λ v m. beyond-all (c .job) v m k f;
       beyond-gates = λ g m. gates-beyond-all (c .job) g m k f;
       beyond-any = λ v m. beyond-any (c .job) v m k f;
+      beyond-gates-any = λ g m. gates-beyond-any (c .job) g m k f;
     }
