@@ -18,6 +18,7 @@ mod session;
 mod tests;
 mod timing;
 mod walk;
+mod words;
 
 use std::env;
 use std::error::Error;
@@ -47,6 +48,7 @@ const USAGE: &str = "usage: peer [list | count | first] < job
        peer entry K A B C D
        peer shortest < job
        peer session < calls
+       peer words LETTERS JOBS SEED [CONSOLE]
        peer gen SEED COUNT DIR
        peer pack < records > job
        peer jobs DIR
@@ -83,6 +85,10 @@ fn run(arguments: &[String]) -> Outcome {
         ("sign", [p, q]) => {
             let [p, q] = [p, q].map(|text| number::<i128>(text));
             say(root2::sign(p?, q?))
+        }
+        ("words", [letters, jobs, seed, console @ ..]) if console.len() < 2 => {
+            let console = console.first().map(String::as_str);
+            say(words::report(number(letters)?, number(jobs)?, number(seed)?, console)?)
         }
         ("gen", [seed, count, directory]) => {
             generate(number(seed)?, number(count)?, Path::new(directory))
