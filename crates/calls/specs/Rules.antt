@@ -7,6 +7,7 @@ use mathlib.Core.Option as O
 use Prim.Native.Nat.{ℕ, zero, suc, _+_, _-_, min}
 use lib.IntN.{ℤ}
 use lib.ListN.{length, take, drop}
+use Rattle.refusals.specs.Refusals.{noJob, afterEnd, noPattern}
 use Rattle.ranks.specs.Handed.{put}
 use Rattle.calls.specs.Session.{World, Reading, refuse, accept, Stage, part, whole}
 use Rattle.calls.specs.Session.{Call, reading, handOut, rewind, clear, plain, imageOf, shortest, Answer, refused, taken, handed, done, says, best, full, space}
@@ -69,12 +70,12 @@ module _ (W : World) where
 
   -- Hand-out: refused 10 while end is yes, and nothing changes; else the count is the lesser of the space and what is left
   abbrev pub handRule : Job → List ℤ → ℕ → Bool → Ruling
-  handRule j l total true = (refusal 10, record { job = whole j; total = total; end = true })
+  handRule j l total true = (refusal afterEnd, record { job = whole j; total = total; end = true })
   handRule j l total false = deal j total l (min (space W l) (left j total))
 
   -- Shortest: refused 14 where there is none
   abbrev pub findRule : Option Best → Verdict
-  findRule O.none = refusal 14
+  findRule O.none = refusal noPattern
   findRule (O.some b) = passed
 
   abbrev pub ruleAt : Call W → Stage Parts Job → Tally → Ruling
@@ -84,18 +85,18 @@ module _ (W : World) where
   ruleAt (reading b) (part p) t = join t (readPart b p)
   ruleAt (reading b) (whole j) t = pass t (readOperator b)
   -- Hand-out: refused 9 until scale, A and B are there
-  ruleAt (handOut l) (part p) t = (refusal 9, t)
+  ruleAt (handOut l) (part p) t = (refusal noJob, t)
   ruleAt (handOut l) (whole j) t = handRule j l (t .total) (t .end)
   -- Rewind: refused 9 until then, and nothing changes; else total 0, end no
-  ruleAt rewind (part p) t = (refusal 9, t)
+  ruleAt rewind (part p) t = (refusal noJob, t)
   ruleAt rewind (whole j) t = (passed, record { job = whole j; total = 0; end = false })
   -- Questions: refused 9 until then; either way nothing changes
-  ruleAt plain (part p) t = (refusal 9, t)
+  ruleAt plain (part p) t = (refusal noJob, t)
   ruleAt plain (whole j) t = (passed, t)
-  ruleAt (imageOf v) (part p) t = (refusal 9, t)
+  ruleAt (imageOf v) (part p) t = (refusal noJob, t)
   ruleAt (imageOf v) (whole j) t = (passed, t)
   -- Shortest: refused 9 until then; either way nothing changes
-  ruleAt shortest (part p) t = (refusal 9, t)
+  ruleAt shortest (part p) t = (refusal noJob, t)
   ruleAt shortest (whole j) t = (findRule (least j), t)
 
   abbrev pub rule : Call W → Tally → Ruling

@@ -27,9 +27,9 @@ impl Refusal {
         ensures { λ r. ⌜ r ≡ numberOf self ⌝ }
     {
         match self {
-            Refusal::NotALetter => 15,
-            Refusal::NotALine => 17,
-            Refusal::NoRoom => 13,
+            Refusal::NotALetter => refusals::NOT_A_LETTER,
+            Refusal::NotALine => refusals::NOT_A_LINE,
+            Refusal::NoRoom => refusals::NO_ROOM,
         }
     }
 }

@@ -164,7 +164,7 @@ none-listed j v = (
 pub run-empty : (s : Session) (c : Course) (b : Bool) → s .stage ≡ S.Walking c → Steps plain [] s s (A.Says b) → (b ≡ false) ↔ ((v : Point) → SelectedSolution (c .job) v → ⊥)
 unfolding full
 run-empty s c b e h =
-    let q : b ≡ not (isNil (full (c .job))) = cc (ap (λ (o : Model.Outcome world). o .0) (rw e at h)) in
+    let q : b ≡ not (isNil (full (c .job))) = cc (ap (λ (o : Model.Outcome world). o .0) (rw e at (h .met))) in
     let n = nil-not (full (c .job)) in
     let m = full-empty (c .job) in
     ((λ f v. none-listed (c .job) v .0 (m .0 (n .0 (sym q ∙ f)) v)), (λ g. q ∙ n .1 (m .1 (λ v. none-listed (c .job) v .1 (g v)))))

@@ -4,6 +4,7 @@ use mathlib.Core.List.{List}
 use Prim.Native.Nat.{ℕ, _+_}
 use lib.Dec.{eqb, leb, ltb}
 use lib.ListN.{length, getD}
+use Rattle.refusals.specs.Refusals.{noKind, unknownKind, short, outOfRange, notUnitary, noReader}
 use Rattle.ring.specs.declared.Point.{Point}
 use Rattle.ring.specs.Point.Exponent.{exponentOf, pulseCount}
 use Rattle.ranges.specs.Ranges.{topScale}
@@ -17,12 +18,12 @@ use Rattle.sheet.specs.declared.Reading.the-variants.{Desk, Crew, Refuse
 
 -- "19 for another reader number, first; then 1, 2 (any kind but 07), 3, 4 as for records; 12 last and for the desk only"
 abbrev pub numberOf : Refusal → ℕ
-numberOf NoKind = 1
-numberOf NotASheet = 2
-numberOf Short = 3
-numberOf OutOfRange = 4
-numberOf NotUnitary = 12
-numberOf NoReader = 19
+numberOf NoKind = noKind
+numberOf NotASheet = unknownKind
+numberOf Short = short
+numberOf OutOfRange = outOfRange
+numberOf NotUnitary = notUnitary
+numberOf NoReader = noReader
 
 -- "kind 07, body 37 bytes: k (0 to 20), the four numbers of u, the four of t (signed 32 bits), ticks (unsigned 32)"; places count from the kind byte
 unfoldable pub pointAt : List ℕ → ℕ → Point

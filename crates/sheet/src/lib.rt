@@ -46,12 +46,12 @@ impl Refusal {
         ensures { λ r. ⌜ r ≡ numberOf self ⌝ }
     {
         match self {
-            Refusal::NoKind => 1,
-            Refusal::NotASheet => 2,
-            Refusal::Short => 3,
-            Refusal::OutOfRange => 4,
-            Refusal::NotUnitary => 12,
-            Refusal::NoReader => 19,
+            Refusal::NoKind => refusals::NO_KIND,
+            Refusal::NotASheet => refusals::UNKNOWN_KIND,
+            Refusal::Short => refusals::SHORT,
+            Refusal::OutOfRange => refusals::OUT_OF_RANGE,
+            Refusal::NotUnitary => refusals::NOT_UNITARY,
+            Refusal::NoReader => refusals::NO_READER,
         }
     }
 }

@@ -6,6 +6,7 @@ use mathlib.Core.Option as O
 use Prim.Native.Nat.{ℕ, zero, suc, _+_, _-_, min}
 use lib.IntN.{ℤ}
 use lib.ListN.{length, take, drop}
+use Rattle.refusals.specs.Refusals.{noJob, afterEnd}
 use Rattle.ranks.specs.Handed.{put}
 use Rattle.takes.specs.Session.{World, Taking, refuse, accept, Call, taking, handOut, rewind, clear, Answer, refused, taken, handed, done, full, space}
 
@@ -51,7 +52,7 @@ module _ (W : World) where
 
   -- Hand-out: refused 10 while end is yes, and nothing changes; else the count is the lesser of the space and what is left
   abbrev pub handRule : Tray → List ℤ → ℕ → Bool → Ruling
-  handRule t l total true = (refused 10, record { tray = O.some t; total = total; end = true })
+  handRule t l total true = (refused afterEnd, record { tray = O.some t; total = total; end = true })
   handRule t l total false = deal t total l (min (space W l) (left t total))
 
   abbrev pub ruleAt : Call W → Option Tray → Tally → Ruling
@@ -59,9 +60,9 @@ module _ (W : World) where
   ruleAt clear o y = (done, begin)
   ruleAt (taking x) o y = takeRule y (takes x)
   -- Hand-out and rewind: refused 9 until a tray is taken, and nothing changes
-  ruleAt (handOut l) O.none y = (refused 9, y)
+  ruleAt (handOut l) O.none y = (refused noJob, y)
   ruleAt (handOut l) (O.some t) y = handRule t l (y .total) (y .end)
-  ruleAt rewind O.none y = (refused 9, y)
+  ruleAt rewind O.none y = (refused noJob, y)
   ruleAt rewind (O.some t) y = (done, fresh t)
 
   abbrev pub rule : Call W → Tally → Ruling
