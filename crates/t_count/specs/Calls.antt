@@ -53,7 +53,7 @@ course : (s : Session) (a : Said.Answer) → Steps shortest [] s s a → (answer
 course s a h n = go (s .stage) refl
   where
     go : (g : Stage) → s .stage ≡ g → (c : Course) × (s .stage ≡ S.Walking c)
-    go (S.Early p) e = absurd (n (ap (λ (o : Model.Outcome world). o .0) (rw e at h)))
+    go (S.Early p) e = absurd (n (ap (λ (o : Model.Outcome world). o .0) (rw e at (h .met))))
     go (S.Walking c) e = (c, e)
 
 module _ {ms : List Made} {s : Session} (r : Run ms s) where
