@@ -17,7 +17,7 @@ use Rattle.output.specs.Output.{outputOf}
 use Rattle.output.specs.Pieces.{State, long, refusal, list, last, done, isDone, stateOf, begin, pieceOf, restOf, Filled}
 use Rattle.output.specs.Pieces.{leftOf as left}
 use Rattle.output.specs.Output.{listLines}
-use Rattle.listing.specs.Page.{scaleOf}
+use Rattle.stages.specs.Session.{scaleOf}
 use Rattle.output.specs.Pages.{Small, Goes}
 use Rattle.output.specs.Joined.{piece-goes, begin-rest, begin-small}
 use Rattle.output.specs.Ready.{load-begun}
