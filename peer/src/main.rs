@@ -17,6 +17,7 @@ mod session;
 #[cfg(test)]
 mod tests;
 mod timing;
+mod tray;
 mod walk;
 mod words;
 
@@ -38,6 +39,7 @@ use lines::Lines;
 use member::Point;
 use session::Session;
 use timing::Console;
+use tray::Trays;
 use walk::Walk;
 
 const LONGEST_INPUT: usize = 65_536;
@@ -227,11 +229,12 @@ fn shortest(job: &Job) -> Outcome {
 
 /// Answers lines of calls as a console does, those of a session alone.
 fn session() -> Outcome {
-    let mut session = Session::default();
+    let (mut session, mut trays) = (Session::default(), Trays::default());
     for line in io::stdin().lines() {
         let line = line?;
         if !line.is_empty() && !line.starts_with('#') {
-            say(session.answer(&line).unwrap_or_else(|| "bad line".into()))?;
+            let answer = session.answer(&line).or_else(|| trays.answer(&line));
+            say(answer.unwrap_or_else(|| "bad line".into()))?;
         }
     }
     Ok(())

@@ -34,25 +34,25 @@ module _ (W : World) where
   verdict (says b) = passed
   verdict (best b) = passed
 
-  pub record Tally : Type 0 where
+  pub record Known : Type 0 where
     pub job : Stage Parts Job
     pub total : ℕ
     pub end : Bool
 
   abbrev pub Ruling : Type 0
-  Ruling = Verdict × Tally
+  Ruling = Verdict × Known
 
   -- Start: no record, total 0, end no
-  abbrev pub begin : Tally
+  abbrev pub begin : Known
   begin = record { job = part none; total = 0; end = false }
 
   -- Reading: an accepted scale, selection or region joins the job
-  abbrev pub join : Tally → Reading (Stage Parts Job) → Ruling
+  abbrev pub join : Known → Reading (Stage Parts Job) → Ruling
   join t (refuse r) = (refusal r, t)
   join t (accept n j) = (passed, record { job = j; total = t .total; end = t .end })
 
   -- an accepted operator changes nothing here
-  abbrev pub pass : Tally → Reading Operator → Ruling
+  abbrev pub pass : Known → Reading Operator → Ruling
   pass t (refuse r) = (refusal r, t)
   pass t (accept n o) = (passed, t)
 
@@ -78,7 +78,7 @@ module _ (W : World) where
   findRule O.none = refusal noPattern
   findRule (O.some b) = passed
 
-  abbrev pub ruleAt : Call W → Stage Parts Job → Tally → Ruling
+  abbrev pub ruleAt : Call W → Stage Parts Job → Known → Ruling
   -- Clearing: as at the start
   ruleAt clear j t = (passed, begin)
   -- Reading: refused where one of the refusals 1 to 8 holds, and then nothing changes; else accepted
@@ -99,14 +99,14 @@ module _ (W : World) where
   ruleAt shortest (part p) t = (refusal noJob, t)
   ruleAt shortest (whole j) t = (findRule (least j), t)
 
-  abbrev pub rule : Call W → Tally → Ruling
+  abbrev pub rule : Call W → Known → Ruling
   rule c t = ruleAt c (t .job) t
 
-  abbrev pub verdicts : Tally → List (Call W) → List Verdict
+  abbrev pub verdicts : Known → List (Call W) → List Verdict
   verdicts t [] = []
   verdicts t (c ∷ cs) = (rule c t) .0 ∷ verdicts ((rule c t) .1) cs
 
   -- what the rules know after a list of calls
-  abbrev pub tallied : Tally → List (Call W) → Tally
-  tallied t [] = t
-  tallied t (c ∷ cs) = tallied ((rule c t) .1) cs
+  abbrev pub knownAfter : Known → List (Call W) → Known
+  knownAfter t [] = t
+  knownAfter t (c ∷ cs) = knownAfter ((rule c t) .1) cs

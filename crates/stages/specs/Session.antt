@@ -51,6 +51,11 @@ meaning s = stageOf (s .stage)
 abbrev pub fresh : Session
 fresh = record { stage = S.Early Nothing }
 
+-- the scale of a whole job
+abbrev pub scaleOf : Model.Session world → ℕ
+scaleOf (early p) = 0
+scaleOf (walking j w o) = j .k
+
 -- ---- answers, with the number of each refusal (SPEC, "Refusals"); a hand-out's with the lent slice as it is then
 abbrev pub answerOf : List ℤ → Answer → Model.Answer world
 answerOf l (A.Taken n) = taken n

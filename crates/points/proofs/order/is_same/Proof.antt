@@ -8,9 +8,9 @@ use lib.Dec.{eqb}
 use mir.Facts.{toZ-ofZ}
 use mir.Val.{SFits}
 use mir.Syntax.{w32}
 use Rattle.points.specs.Points.{Fits32, rankOf, word, word-below, rank-words}
-use Rattle.merge.proofs.order.is_same.Statement.{statement}
-use Rattle.merge.proofs.order.is_same.Tie as tie
+use Rattle.points.proofs.order.is_same.Statement.{statement}
+use Rattle.points.proofs.order.is_same.Tie as tie
 
 eqb-same : (a b c d : ℕ) → (a ≡ b → c ≡ d) → (c ≡ d → a ≡ b) → eqb a b ≡ eqb c d
 eqb-same a b c d f g = go (eqb a b) refl

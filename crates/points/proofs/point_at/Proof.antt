@@ -6,10 +6,10 @@ use lib.ListN.{getD}
 use mir.Syntax.{w32}
 use mir.Val.{SFits}
 use mir.Facts.{toZ-ofZ}
-use Rattle.list_lines.specs.Lines.{pointAt}
+use Rattle.points.specs.Slices.{pointAt}
 use borrow.Author.Needs.{needs}
-use Rattle.list_lines.proofs.point_at.Statement.{statement}
-use Rattle.list_lines.proofs.point_at.Tie as tie
+use Rattle.points.proofs.point_at.Statement.{statement}
+use Rattle.points.proofs.point_at.Tie as tie
 
 mul-t3 : tie.Need-mul-t3
 mul-t3 c = search needs
