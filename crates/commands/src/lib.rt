@@ -1,15 +1,14 @@
 // What the console answers, line by line (SPEC, "Console").
-mod steps;
-
 ghost use mathlib.Core.Path.{_≡_};
 ghost use lib.ListN.{length};
 ghost use Rattle.io.specs.Counts.{Counts};
-use steps::Reply;
 use tallied::Tallied;
+use tray::Session;
 
-// What is kept from line to line: one session, which each call moves on.
+// What is kept from line to line: the bench's session and the tray's, which their calls move on.
 pub struct Desk {
     pub session: Tallied,
+    pub tray: Session,
 }
 
 // The desk that a line leaves, and the length of its answer.
@@ -18,10 +17,11 @@ pub struct Answered {
     pub length: usize,
 }
 
-// A session that has read nothing.
+// A session that has read nothing, and no tray.
 pub fn start() -> Desk {
     Desk {
         session: tallied::start(),
+        tray: tray::start(),
     }
 }
 
@@ -52,28 +52,19 @@ fn within(n: usize, out: &[u8]) -> usize
 }
 
 fn put_answer(d: Desk, line: &[u8], out: &mut [u8]) -> Answered {
-    let s = d.session;
     if line.len() == 0 {
-        return kept(s, 0);
+        return kept(d, 0);
     }
     if line[0] == b'#' {
-        return kept(s, 0);
+        return kept(d, 0);
     }
     let c = command_at(line);
-    if c.name == wording::WORD {
-        return kept(s, stateless::put_words(out, line, c.end));
-    }
-    if c.name == wording::TALLY {
-        return kept(s, steps::put_tally(out, s, line, c.end));
-    }
-    put_reply(s, c.name, line, c.end, out)
+    put_command(d, c.name, line, c.end, out)
 }
 
-fn kept(s: Tallied, length: usize) -> Answered {
-    Answered {
-        desk: Desk { session: s },
-        length,
-    }
+// A desk that stays.
+fn kept(d: Desk, length: usize) -> Answered {
+    Answered { desk: d, length }
 }
 
 // What the first word of a line names, and where the word ends.
@@ -89,26 +80,62 @@ fn command_at(line: &[u8]) -> Command {
     Command { name, end }
 }
 
-// Every command but `word`, whose answer is letters, and `tally`, whose answer is numbers of two words.
-fn put_reply(s: Tallied, c: usize, line: &[u8], end: usize, out: &mut [u8]) -> Answered {
-    let mut numbers = steps::number_buffer();
-    let r = reply(s, c, line, end, &mut numbers);
-    let l = r.line;
-    let left = r.session;
-    kept(left, replies::put(out, l, &numbers))
+// By family: the commands' places are in this order.
+fn put_command(d: Desk, c: usize, line: &[u8], from: usize, out: &mut [u8]) -> Answered {
+    if c < wording::TALLY {
+        return put_bench(d, c, line, from, out);
+    }
+    if c == wording::TALLY {
+        return kept(d, bench_calls::put_tally(out, d.session, line, from));
+    }
+    if c <= wording::TRAY_CLEAR {
+        return put_tray(d, c, line, from, out);
+    }
+    if c <= wording::PUT_SHEET {
+        return kept(d, companions::put(out, c, line, from));
+    }
+    kept(d, put_stateless(out, c, line, from))
 }
 
-// The answer to a command; its arguments begin at `end`.
-fn reply(s: Tallied, c: usize, line: &[u8], end: usize, numbers: &mut [i32]) -> Reply {
-    match c {
-        wording::READ => steps::read(s, line, end),
-        wording::HAND
-        | wording::IMAGE
-        | wording::REWIND
-        | wording::CLEAR
-        | wording::PLAIN
-        | wording::SHORTEST
-        | wording::PROPOSE => steps::numbered(s, c, wording::numbers_from(line, end), numbers),
-        _ => steps::same(s, stateless::answer(c, line, end, numbers)),
+// The numbers that a line may lend.
+fn number_buffer() -> [i32; 4096]
+    ensures { λ r. ⌜ 4096 ≡ length r ⌝ }
+{
+    [0; 4096]
+}
+
+fn put_bench(d: Desk, c: usize, line: &[u8], from: usize, out: &mut [u8]) -> Answered {
+    let mut numbers = number_buffer();
+    let t = d.tray;
+    let r = bench_calls::answer(d.session, c, line, from, &mut numbers);
+    let l = r.line;
+    let s = r.session;
+    Answered {
+        desk: Desk {
+            session: s,
+            tray: t,
+        },
+        length: replies::put(out, l, &numbers),
     }
+}
+
+fn put_tray(d: Desk, c: usize, line: &[u8], from: usize, out: &mut [u8]) -> Answered {
+    let mut numbers = number_buffer();
+    let s = d.session;
+    let r = tray_calls::answer(d.tray, c, line, from, &mut numbers);
+    let l = r.line;
+    let t = r.session;
+    Answered {
+        desk: Desk {
+            session: s,
+            tray: t,
+        },
+        length: replies::put(out, l, &numbers),
+    }
+}
+
+fn put_stateless(out: &mut [u8], c: usize, line: &[u8], from: usize) -> usize {
+    let mut numbers = number_buffer();
+    let l = stateless::answer(c, line, from, &mut numbers);
+    replies::put(out, l, &numbers)
 }

@@ -3,8 +3,8 @@ use mathlib.Core.Path.{sym}
 use native.Mathlib.Omega.{arith}
 use lib.Seq.{length-take-le}
 use borrow.Author.Needs.{needs}
-use Rattle.stateless.proofs.letters.front.Statement.{statement}
-use Rattle.stateless.proofs.letters.front.Tie as tie
+use Rattle.companions.proofs.letters.front.Statement.{statement}
+use Rattle.companions.proofs.letters.front.Tie as tie
 
 slice-aggregate-shown : tie.Need-slice-aggregate-shown
 slice-aggregate-shown c = sym (length-take-le _ _ (omega arith))

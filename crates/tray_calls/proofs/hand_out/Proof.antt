@@ -2,8 +2,8 @@
 use mathlib.Core.Path.{sym}
 use lib.Seq.{length-take-le}
 use borrow.Author.Needs.{needs}
-use Rattle.commands.proofs.steps.hand_out.Statement.{statement}
-use Rattle.commands.proofs.steps.hand_out.Tie as tie
+use Rattle.tray_calls.proofs.hand_out.Statement.{statement}
+use Rattle.tray_calls.proofs.hand_out.Tie as tie
 
 same-requires : tie.Need-same-requires
 same-requires c κs = search needs

@@ -2,8 +2,8 @@
 use mathlib.Core.Path.{sym}
 use lib.Seq.{length-take-le}
 use borrow.Author.Needs.{needs}
-use Rattle.commands.proofs.steps.read_bytes.Statement.{statement}
-use Rattle.commands.proofs.steps.read_bytes.Tie as tie
+use Rattle.bench_calls.proofs.read_bytes.Statement.{statement}
+use Rattle.bench_calls.proofs.read_bytes.Tie as tie
 
 same-requires : tie.Need-same-requires
 same-requires c κs = search needs

@@ -3,8 +3,8 @@ use mathlib.Core.Path.{sym}
 use native.Mathlib.Omega.{arith}
 use lib.Seq.{length-take-le}
 use borrow.Author.Needs.{needs}
-use Rattle.stateless.proofs.letters.spelled.Statement.{statement}
-use Rattle.stateless.proofs.letters.spelled.Tie as tie
+use Rattle.companions.proofs.letters.spelled.Statement.{statement}
+use Rattle.companions.proofs.letters.spelled.Tie as tie
 
 put-bad-requires : tie.Need-put-bad-requires
 put-bad-requires c κs = search needs

@@ -1,6 +1,4 @@
-// Calls on the session.
-ghost use mathlib.Core.Path.{_≡_};
-ghost use lib.ListN.{length};
+// The console's commands for the bench's session (SPEC, "Console").
 use arguments::Four;
 use hex::Hex;
 use record::Refusal;
@@ -19,8 +17,16 @@ pub struct Reply {
     pub line: Line,
 }
 
+// The answer to a command but `tally`; its arguments begin at `from`, and the numbers of a hand-out are written to the front of `space`.
+pub fn answer(s: Tallied, c: usize, line: &[u8], from: usize, space: &mut [i32]) -> Reply {
+    if c == wording::READ {
+        return read(s, line, from);
+    }
+    numbered(s, c, wording::numbers_from(line, from), space)
+}
+
 // A session that stays.
-pub fn same(s: Tallied, l: Line) -> Reply {
+fn same(s: Tallied, l: Line) -> Reply {
     Reply {
         session: s,
         line: l,
@@ -48,27 +54,14 @@ fn answered(a: Answer) -> Line {
 }
 
 // `read HEX`; with no word after it a reading of no bytes.
-pub fn read(s: Tallied, line: &[u8], from: usize) -> Reply {
+fn read(s: Tallied, line: &[u8], from: usize) -> Reply {
     let mut bytes = io::large_buffer();
     let first = scan::spaces_from(line, from);
-    let h = pairs(line, first, &mut bytes);
+    let h = wording::last_bytes(line, first, &mut bytes);
     match h {
         Hex::Bytes(n) => read_bytes(s, &bytes, n),
         Hex::Bad => same(s, Line::Bad),
     }
-}
-
-// The bytes that the last word of a line spells.
-fn pairs(line: &[u8], first: usize, bytes: &mut [u8]) -> Hex {
-    if line.len() <= first {
-        return Hex::Bytes(0);
-    }
-    let end = scan::word_end(line, first);
-    let rest = scan::spaces_from(line, end);
-    if rest < line.len() {
-        return Hex::Bad;
-    }
-    hex::unhex(&line[first..end], bytes)
 }
 
 fn read_bytes(s: Tallied, bytes: &[u8], n: usize) -> Reply {
@@ -78,15 +71,8 @@ fn read_bytes(s: Tallied, bytes: &[u8], n: usize) -> Reply {
     replied(held::read(s, &bytes[..n]))
 }
 
-// The numbers that a line may lend.
-pub fn number_buffer() -> [i32; 4096]
-    ensures { λ r. ⌜ 4096 ≡ length r ⌝ }
-{
-    [0; 4096]
-}
-
 // The commands with numbers, or with none.
-pub fn numbered(s: Tallied, c: usize, n: Numbers, space: &mut [i32]) -> Reply {
+fn numbered(s: Tallied, c: usize, n: Numbers, space: &mut [i32]) -> Reply {
     if !n.good {
         return same(s, Line::Bad);
     }
@@ -153,7 +139,7 @@ fn image(s: Tallied, n: Numbers) -> Line {
     }
 }
 
-// `tally`, without a number: the line that answers it, and its length.
+// The line that answers `tally`, which has no number, and its length.
 pub fn put_tally(out: &mut [u8], s: Tallied, line: &[u8], from: usize) -> usize {
     let n = wording::numbers_from(line, from);
     if n.good {
