@@ -51,6 +51,38 @@ pub fn byte_of(k: i64) -> Byte {
     Byte::Fits(k as u8)
 }
 
+// A number without a sign.
+pub enum Natural {
+    Fits(u64),
+    Negative,
+}
+
+// A number that has no sign.
+pub fn natural_of(n: i64) -> Natural {
+    if !integers::is_nonneg(n) {
+        return Natural::Negative;
+    }
+    Natural::Fits(integers::abs(n))
+}
+
+// A number of 32 bits, without a sign.
+pub enum Word {
+    Fits(u32),
+    TooWide,
+}
+
+// The word of a number.
+pub fn word_of(n: i64) -> Word {
+    if !integers::is_nonneg(n) {
+        return Word::TooWide;
+    }
+    let n = integers::abs(n);
+    if 4_294_967_295 < n {
+        return Word::TooWide;
+    }
+    Word::Fits(n as u32)
+}
+
 // A byte and four numbers of 32 bits.
 pub enum Scaled {
     Point(u8, Point),

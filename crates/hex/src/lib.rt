@@ -1,7 +1,7 @@
-// Hexadecimal pairs read: the bytes that a word spells, written to a slice that the caller lends.
+// Hexadecimal pairs: the bytes that a word spells, written to a slice that the caller lends, and the digits that spell bytes.
 ghost use mathlib.Core.Path.{_≡_};
 ghost use mathlib.Core.Bool.{true};
-ghost use Prim.Native.Nat.{_/_, _≤_};
+ghost use Prim.Native.Nat.{_/_, _<_, _≤_};
 ghost use lib.ListN.{length, drop};
 ghost use mathlib.Core.List.{_++_};
 ghost use Rattle.hex.specs.Hex.{digitOf, allHex, pairs, isHex, hexOf, hexWritten};
@@ -73,4 +73,27 @@ fn put_pairs(word: &[u8], out: &mut [u8])
         out[i] = digit(word[2 * i]) * 16 + digit(word[2 * i + 1]);
         i += 1;
     }
+}
+
+// The digits that spell the bytes, two to a byte, from a place on, and the place after them. What does not fit is not written.
+pub fn put_hex(out: &mut [u8], from: usize, bytes: &[u8]) -> usize {
+    let mut at = from;
+    let mut i = 0;
+    while i < bytes.len() {
+        at = put_pair(out, at, bytes[i]);
+        i += 1;
+    }
+    at
+}
+
+fn put_pair(out: &mut [u8], at: usize, b: u8) -> usize {
+    let at = text::put_byte(out, at, letter(b / 16));
+    text::put_byte(out, at, letter(b % 16))
+}
+
+// A digit's byte, in lower case.
+fn letter(d: u8) -> u8
+    requires { ⌜ d < 16 ⌝ }
+{
+    if d < 10 { 48 + d } else { 87 + d }
 }

@@ -23,6 +23,12 @@ pub enum Value {
     Eight(WidePoint, WidePoint),
     // A scale and two points.
     Pattern(u8, WidePoint, WidePoint),
+    // A number, and yes or no.
+    Told(u64, bool),
+    // What the desk reads on a sheet: the bytes taken, the scale, u, t and the ticks.
+    Desk(usize, u8, WidePoint, WidePoint, u32),
+    // What the crew reads there: the bytes taken, m and the ticks.
+    Crew(usize, u64, u32),
     // A hand-out: the count, whether it is the end, and how many numbers were handed out.
     Handed(usize, bool, usize),
 }
@@ -42,6 +48,11 @@ pub fn of_pattern(k: u8, u: Point, t: Point) -> Value {
     Value::Pattern(k, widened(u), widened(t))
 }
 
+// A sheet as the desk reads it: the bytes taken and every field.
+pub fn of_desk(taken: usize, k: u8, u: Point, t: Point, ticks: u32) -> Value {
+    Value::Desk(taken, k, widened(u), widened(t), ticks)
+}
+
 // A hand-out of pairs: the count, and whether it is the end.
 pub fn of_pairs(count: usize, ended: bool) -> Value {
     Value::Handed(count, ended, twice(count))
@@ -50,6 +61,15 @@ pub fn of_pairs(count: usize, ended: bool) -> Value {
 // A hand-out of points.
 pub fn of_points(count: usize, ended: bool) -> Value {
     Value::Handed(count, ended, twice(twice(count)))
+}
+
+// A hand-out of points with their masks, five numbers each.
+pub fn of_masked(count: usize, ended: bool) -> Value {
+    Value::Handed(
+        count,
+        ended,
+        std::num::wrapping_add_usize(twice(twice(count)), count),
+    )
 }
 
 // The line of an answer, and its length; the numbers of a hand-out are the first ones of `numbers`.
@@ -85,6 +105,28 @@ pub fn put_counts(out: &mut [u8], counts: [Size; 21]) -> usize {
     end(out, at)
 }
 
+// The line of a byte sequence: `ok` and its digits, or `ok` alone for none.
+pub fn put_hexed(out: &mut [u8], bytes: &[u8]) -> usize {
+    let at = text::put_bytes(out, 0, b"ok");
+    if bytes.len() == 0 {
+        return end(out, at);
+    }
+    let at = text::put_byte(out, at, b' ');
+    let at = hex::put_hex(out, at, bytes);
+    end(out, at)
+}
+
+// The line of a word: `ok` and its letters, or `ok` alone for none.
+pub fn put_lettered(out: &mut [u8], word: &[u8]) -> usize {
+    let at = text::put_bytes(out, 0, b"ok");
+    if word.len() == 0 {
+        return end(out, at);
+    }
+    let at = text::put_byte(out, at, b' ');
+    let at = text::put_bytes(out, at, word);
+    end(out, at)
+}
+
 fn good(out: &mut [u8], v: Value, numbers: &[i32]) -> usize {
     let at = text::put_bytes(out, 0, b"ok");
     let at = put_value(out, at, v, numbers);
@@ -96,6 +138,9 @@ fn put_value(out: &mut [u8], at: usize, v: Value, numbers: &[i32]) -> usize {
         Value::Says(yes) => yes_or_no(out, at, yes),
         Value::Unsigned(n) => unsigned(out, at, n),
         Value::Pair(m, n) => pair(out, at, m, n),
+        Value::Told(n, yes) => told(out, at, n, yes),
+        Value::Desk(taken, k, u, t, ticks) => desk(out, at, taken, k, u, t, ticks),
+        Value::Crew(taken, m, ticks) => crew(out, at, taken, m, ticks),
         Value::Handed(count, ended, n) => handed(out, at, count, ended, numbers, n),
         _ => put_signed(out, at, v),
     }
@@ -186,6 +231,30 @@ fn twice(n: usize) -> usize {
     std::num::wrapping_add_usize(n, n)
 }
 
+fn told(out: &mut [u8], at: usize, n: u64, yes: bool) -> usize {
+    let at = unsigned(out, at, n);
+    yes_or_no(out, at, yes)
+}
+
+fn desk(
+    out: &mut [u8],
+    at: usize,
+    taken: usize,
+    k: u8,
+    u: WidePoint,
+    t: WidePoint,
+    ticks: u32,
+) -> usize {
+    let at = unsigned(out, at, taken as u64);
+    let at = pattern(out, at, k, u, t);
+    unsigned(out, at, ticks as u64)
+}
+
+fn crew(out: &mut [u8], at: usize, taken: usize, m: u64, ticks: u32) -> usize {
+    let at = pair(out, at, taken as u64, m);
+    unsigned(out, at, ticks as u64)
+}
+
 // A count, the end, and the first n numbers.
 fn handed(
     out: &mut [u8],
@@ -195,8 +264,7 @@ fn handed(
     numbers: &[i32],
     n: usize,
 ) -> usize {
-    let at = unsigned(out, at, count as u64);
-    let at = yes_or_no(out, at, ended);
+    let at = told(out, at, count as u64, ended);
     all(out, at, numbers, n)
 }
 

@@ -1,15 +1,13 @@
-// The console's commands that do not touch its session (SPEC, "Console").
+// The console's commands for numbers, points and operators (SPEC, "Console").
 mod elements;
 mod entries;
-mod letters;
 mod operators;
 mod pairs;
 
-pub use letters::put_words;
 use replies::Line;
 use wording::Numbers;
 
-// The answer to a command other than `word`; its arguments begin at `from`, and the numbers of a hand-out are written to the front of `space`.
+// The answer to a command; its arguments begin at `from`, and the numbers of a hand-out are written to the front of `space`.
 pub fn answer(c: usize, line: &[u8], from: usize, space: &mut [i32]) -> Line {
     if c == wording::SIGN {
         return elements::sign(line, from);

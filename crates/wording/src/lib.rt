@@ -1,9 +1,16 @@
-// The words of a line of the console: the command that the first one names, and the numbers after it.
-ghost use Prim.Native.Nat.{_^_};
+// The words of a line of the console: the command that the first one names, and the numbers and the bytes after it.
+mod digits;
+
+ghost use Prim.Native.Nat.{_^_, _≤_};
 ghost use mathlib.Core.Path.{_≡_};
+ghost use mathlib.Core.Bool.{true, false};
+ghost use lib.ListN.{length};
 ghost use Rattle.scan.specs.Number.{readOf, wideReadOf};
 ghost use Rattle.wording.specs.Names.{placeOf, wordsOf, names};
-ghost use Rattle.wording.specs.Numbers.{listedOf, bad, endsWord, wordAt, numbersFrom, pairOf, pairFrom, lentOf};
+ghost use Rattle.wording.specs.Numbers.{listedOf, leadingOf, endsWord, wordAt, leadingFrom, numbersFrom, numbersBefore, pairOf, pairFrom, lengthOf};
+pub use digits::Spelled;
+pub use digits::bytes_at;
+pub use digits::last_bytes;
 use scan::Number;
 use scan::WideNumber;
 use words::Wide;
@@ -21,52 +28,73 @@ pub const PLAIN: usize = 4;
 
 pub const IMAGE: usize = 5;
 
-pub const PROPOSE: usize = 6;
+pub const SHORTEST: usize = 6;
 
-pub const SIGN: usize = 7;
+pub const PROPOSE: usize = 7;
 
-pub const LINE: usize = 8;
+pub const TALLY: usize = 8;
 
-pub const OPERATOR: usize = 9;
+pub const TRAY: usize = 9;
 
-pub const APPLY: usize = 10;
+pub const TRAY_HAND: usize = 10;
 
-pub const INVERSE: usize = 11;
+pub const TRAY_REWIND: usize = 11;
 
-pub const MATRIX: usize = 12;
+pub const TRAY_CLEAR: usize = 12;
 
-pub const PRODUCT: usize = 13;
+pub const WORD: usize = 13;
 
-pub const DETERMINANT: usize = 14;
+pub const COST: usize = 14;
 
-pub const EXPONENT: usize = 15;
+pub const TRAY_COST: usize = 15;
 
-pub const REAL: usize = 16;
+pub const QASM: usize = 16;
 
-pub const IMAGINARY: usize = 17;
+pub const UNQASM: usize = 17;
 
-pub const DIVIDE: usize = 18;
+pub const SHEET: usize = 18;
 
-pub const LAMBDA: usize = 19;
+pub const PUT_SHEET: usize = 19;
 
-pub const OMEGA: usize = 20;
+pub const SIGN: usize = 20;
 
-pub const DELTA: usize = 21;
+pub const LINE: usize = 21;
 
-pub const IDENTITY: usize = 22;
+pub const ENTRY: usize = 22;
 
-pub const ENTRY: usize = 23;
+pub const EXPONENT: usize = 23;
 
-pub const WORD: usize = 24;
+pub const REAL: usize = 24;
 
-pub const SHORTEST: usize = 25;
+pub const IMAGINARY: usize = 25;
 
-pub const TALLY: usize = 26;
+pub const DIVIDE: usize = 26;
 
-// The numbers after the first word, at most 16, where the words are good.
+pub const LAMBDA: usize = 27;
+
+pub const OMEGA: usize = 28;
+
+pub const DELTA: usize = 29;
+
+pub const IDENTITY: usize = 30;
+
+pub const OPERATOR: usize = 31;
+
+pub const APPLY: usize = 32;
+
+pub const INVERSE: usize = 33;
+
+pub const MATRIX: usize = 34;
+
+pub const PRODUCT: usize = 35;
+
+pub const DETERMINANT: usize = 36;
+
+// Numbers of a line, at most 16, where the words are good, and where the word after them begins.
 pub struct Numbers {
     pub values: [i64; 16],
     pub count: usize,
+    pub end: usize,
     pub good: bool,
 }
 
@@ -76,7 +104,7 @@ pub enum Pair {
     Bad,
 }
 
-// The length of a slice to be lent, at most 4,096.
+// The length of a slice to be lent.
 pub enum Slice {
     Length(usize),
     TooLong,
@@ -88,9 +116,11 @@ pub fn command_of(word: &[u8]) -> usize
 {
     place_of(
         word,
-        b"read hand rewind clear plain image propose \
-          sign line operator apply inverse matrix product determinant exponent \
-          real imaginary divide lambda omega delta identity entry word shortest tally",
+        b"read hand rewind clear plain image shortest propose tally \
+          tray tray-hand tray-rewind tray-clear \
+          word cost tray-cost qasm unqasm sheet put-sheet \
+          sign line entry exponent real imaginary divide lambda omega delta identity \
+          operator apply inverse matrix product determinant",
     )
 }
 
@@ -115,12 +145,38 @@ fn place_of(word: &[u8], text: &[u8]) -> usize
 pub fn numbers_from(line: &[u8], from: usize) -> Numbers
     ensures { λ r. ⌜ listedOf r ≡ numbersFrom (now (line .entry)) from ⌝ }
 {
+    let n = leading(line, from, 16);
+    if n.end < line.len() {
+        return no_numbers();
+    }
+    n
+}
+
+// The first n numbers from a place on, of which there may be 16, and where the word after them begins.
+pub fn numbers_before(line: &[u8], from: usize, n: usize) -> Numbers
+    ensures { λ r. ⌜ leadingOf r ≡ numbersBefore n (now (line .entry)) from ⌝ }
+{
+    if 16 < n {
+        return no_numbers();
+    }
+    let l = leading(line, from, n);
+    if l.count != n {
+        return no_numbers();
+    }
+    l
+}
+
+// The numbers from a place on, at most `most`.
+fn leading(line: &[u8], from: usize, most: usize) -> Numbers
+    requires { ⌜ most ≤ 16 ⌝ }
+    ensures { λ r. ⌜ (leadingOf r ≡ leadingFrom most (now (line .entry)) from) × (r .count ≤ 16) × (length (r .values) ≡ 16) ⌝ }
+{
     let mut values = [0i64; 16];
     let mut count = 0;
     let mut at = scan::spaces_from(line, from);
     while at < line.len() {
-        if 16 <= count {
-            return no_numbers();
+        if most <= count {
+            return counted(values, count, at);
         }
         let n = word_at(line, at);
         let Number::Value(v, next) = n else {
@@ -130,20 +186,28 @@ pub fn numbers_from(line: &[u8], from: usize) -> Numbers
         count += 1;
         at = next;
     }
+    counted(values, count, at)
+}
+
+fn counted(values: [i64; 16], count: usize, end: usize) -> Numbers
+    ensures { λ r. ⌜ (r .values ≡ values) × (r .count ≡ count) × (r .end ≡ end) × (r .good ≡ true) ⌝ }
+{
     Numbers {
         values,
         count,
+        end,
         good: true,
     }
 }
 
 // A line that is not read.
 fn no_numbers() -> Numbers
-    ensures { λ r. ⌜ listedOf r ≡ bad ⌝ }
+    ensures { λ r. ⌜ (r .good ≡ false) × (r .count ≡ 0) × (length (r .values) ≡ 16) ⌝ }
 {
     Numbers {
         values: [0; 16],
         count: 0,
+        end: 0,
         good: false,
     }
 }
@@ -208,15 +272,28 @@ pub fn pair_from(line: &[u8], from: usize) -> Pair
     Pair::Both(p, q)
 }
 
-// The length of a slice to be lent: from 0 to 4096.
+// The length of a slice of numbers or letters to be lent: from 0 to 4,096.
 pub fn lent(n: i64) -> Slice
-    ensures { λ r. ⌜ r ≡ lentOf n ⌝ }
+    ensures { λ r. ⌜ r ≡ lengthOf 4096 n ⌝ }
+{
+    length_to(n, 4096)
+}
+
+// The length of a slice for a text or a sheet to be lent: from 0 to 65,536.
+pub fn room(n: i64) -> Slice
+    ensures { λ r. ⌜ r ≡ lengthOf 65536 n ⌝ }
+{
+    length_to(n, 65536)
+}
+
+fn length_to(n: i64, top: u64) -> Slice
+    ensures { λ r. ⌜ r ≡ lengthOf top n ⌝ }
 {
     if !integers::is_nonneg(n) {
         return Slice::TooLong;
     }
     let m = integers::abs(n);
-    if m <= 4096 {
+    if m <= top {
         return Slice::Length(m as usize);
     }
     Slice::TooLong

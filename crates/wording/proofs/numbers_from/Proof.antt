@@ -1,137 +1,23 @@
--- `numbers_from` meets its contract: the numbers so far, with those to come, are those of the line. Assumes nothing.
-use Prim.Native.Nat.{ℕ, suc, _+_, _-_, _^_, _≤_, _<_}
-use mathlib.Core.Path.{_≡_, refl, sym, ap, _∙_}
-use mathlib.Core.List.{List, [], _∷_, _++_}
-use native.Mathlib.Omega.{arith}
-use lib.IntN.{ℤ}
-use lib.ListN.{length, take, set, length-set}
-use lib.Seq.{take-suc-set}
-use mir.Syntax.{w64}
-use mir.Val.{SFits}
-use mir.Facts.{toZ-ofZ}
-use Rattle.scan.specs.Number.{value as number, readOf}
-use Rattle.wording.specs.Numbers.{wordAt, numbersWith, numbersFrom, numbers-end, numbers-full, numbers-none, numbers-more}
+-- `numbers_from` meets its contract. Assumes nothing.
+use mathlib.Core.Path.{sym, _∙_}
+use Rattle.wording.specs.Numbers.{listed-bad, numbers-some, numbers-none}
 use borrow.Author.Needs.{needs}
 use Rattle.wording.proofs.numbers_from.Statement.{statement}
 use Rattle.wording.proofs.numbers_from.Tie as tie
 
-abbrev Inv-loop : tie.InvT-loop
-Inv-loop line from values₀ count₀ at₀ values count at =
-    (count ≤ 16) × (length values ≡ 16) × (numbersWith (16 - count) line at (take count values) ≡ numbersFrom line from)
+leading-requires : tie.Need-leading-requires
+leading-requires c κs = search needs
 
-abbrev μ-loop : tie.MeasureT-loop
-μ-loop line from values₀ count₀ at₀ values count at = 16 - count
-
-suc-is : (n : ℕ) → n + 1 ≡ suc n
-suc-is n = omega arith
-
--- a turn of the loop
-module _ (l : tie.At-loop Inv-loop μ-loop) where
-  abbrev line : List ℕ
-  line = l .before .before .before .args .line .now
-
-  abbrev room : ℕ
-  room = 16 - l .loop .count
-
-  abbrev soFar : List ℤ
-  soFar = take (l .loop .count) (l .loop .values)
-
--- a word that is a number
-module _ (c : tie.After-known-told Inv-loop μ-loop) where
-  abbrev here : tie.At-loop Inv-loop μ-loop
-  here = c .before .before .before .before .before .before
-
-  abbrev value : ℤ
-  value = c .before .n .given .0 .0
-
-  abbrev next : ℕ
-  next = c .before .n .given .0 .1 .0
-
-  fits : SFits w64 value
-  fits = search needs
-
-  told : wordAt (2 ^ 63) (line here) (here .loop .at) ≡ number value next
-  told = sym (c .before .before .before .word-at .ensures) ∙ ap readOf (c .before .n .given .1)
-
-  left : room here ≡ suc (16 - (here .loop .count + 1))
-  left = let e = c .before .before .before .before .if1 .left in omega arith
-
-spaces-from-requires : tie.Need-spaces-from-requires Inv-loop μ-loop
-spaces-from-requires c κs = search needs
-
-loop-holds : tie.Need-loop-holds Inv-loop μ-loop
-unfolding numbersFrom
-loop-holds c = (omega arith, refl, rw (c .spaces-from .ensures) refl)
-
-no-numbers-requires : tie.Need-no-numbers-requires Inv-loop μ-loop
+no-numbers-requires : tie.Need-no-numbers-requires
 no-numbers-requires c κs = search needs
 
-returns : tie.Need-returns Inv-loop μ-loop
+returns : tie.Need-returns
 returns c =
-    let l = c .before .before .before in
-    c .no-numbers .ensures ∙ sym (numbers-full (room l) (line l) (l .loop .at) (soFar l) (c .before .before .loop-test .taken) (let e = c .before .if1 .taken in omega arith)) ∙ l .loop .inv .2
+    let b = c .before in
+    listed-bad (c .no-numbers .result) (c .no-numbers .ensures .0) ∙ sym (numbers-some (b .before .before .leading .result) _ _ (b .before .before .leading .ensures .0) (b .if1 .taken))
 
-word-at-requires : tie.Need-word-at-requires Inv-loop μ-loop
-word-at-requires c κs = search needs
-
-enum-known-n : tie.Need-enum-known-n Inv-loop μ-loop
-enum-known-n c = search needs
-
-enum-told : tie.Need-enum-told Inv-loop μ-loop
-enum-told c = search needs
-
-no-numbers-requires-2 : tie.Need-no-numbers-requires-2 Inv-loop μ-loop
-no-numbers-requires-2 c κs = search needs
-
-returns-2 : tie.Need-returns-2 Inv-loop μ-loop
-returns-2 c =
-    let l = c .before .before .before .before .before .before in
-    let n = c .before .before .before in
-    let e : room l ≡ suc (16 - (l .loop .count + 1)) = let e = n .before .if1 .left in omega arith in
-    c .no-numbers2 .ensures ∙ sym (numbers-none (room l) (line l) (l .loop .at) (soFar l) (n .before .before .loop-test .taken) _ e (sym (n .word-at .ensures) ∙ ap readOf (c .before .enum-told .given .1))) ∙ l .loop .inv .2
-
-mul-values : tie.Need-mul-values Inv-loop μ-loop
-mul-values c = search needs
-
-array-set-from-values : tie.Need-array-set-from-values Inv-loop μ-loop
-array-set-from-values c = search needs
-
-add-count : tie.Need-add-count Inv-loop μ-loop
-add-count c = search needs
-
-loop-less : tie.Need-loop-less Inv-loop μ-loop
-loop-less c = search needs
-
-loop-again : tie.Need-loop-again Inv-loop μ-loop
-loop-again c =
-    let k = c in
-    let l = here k in
-    let small : l .loop .count < length (l .loop .values) = let e = l .loop .inv .1 in let f = k .before .before .before .before .if1 .left in omega arith in
-    let more = numbers-more (room l) (line l) (l .loop .at) (soFar l) (k .before .before .before .before .before .loop-test .taken) _ (value k) (next k) (left k) (told k) in
-    let put : take (l .loop .count + 1) (set (l .loop .values) (l .loop .count) (value k)) ≡ soFar l ++ (value k ∷ []) = rw (suc-is (l .loop .count)) (take-suc-set (l .loop .values) (l .loop .count) (value k) small) in
-    (omega arith, length-set (l .loop .values) (l .loop .count) _ ∙ l .loop .inv .1, rw (toZ-ofZ (fits k), put) (sym more ∙ l .loop .inv .2))
-
-returns-3 : tie.Need-returns-3 Inv-loop μ-loop
-returns-3 c = let l = c .before in sym (numbers-end (room l) (line l) (l .loop .at) (soFar l) (c .loop-test .left)) ∙ l .loop .inv .2
+returns-2 : tie.Need-returns-2
+returns-2 c = sym (numbers-none (c .before .before .leading .result) _ _ (c .before .before .leading .ensures .0) (c .if1 .left))
 
 pub numbers-from-spec : {M : Type 1} → statement M
-numbers-from-spec =
-    tie.close
-    (tie.spec
-    Inv-loop
-    μ-loop
-    spaces-from-requires
-    loop-holds
-    no-numbers-requires
-    returns
-    word-at-requires
-    enum-known-n
-    enum-told
-    no-numbers-requires-2
-    returns-2
-    mul-values
-    array-set-from-values
-    add-count
-    loop-less
-    loop-again
-    returns-3)
+numbers-from-spec = tie.close (tie.spec leading-requires no-numbers-requires returns returns-2)
