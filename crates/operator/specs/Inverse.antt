@@ -38,7 +38,7 @@ answer NotSpecial h = Refused NotSpecial
 unfoldable pub inverseOf : Operator → Inverse
 inverseOf g = answer (checkOf g) (times (detWhole g) (adjugate g))
 
--- the number of each case (SPEC, "Numbers"): 0 for an inverse, else the refusal of the operator
+-- the number of each case (SPEC, "Refusals"): 0 for an inverse, else the refusal of the operator
 abbrev pub number : Inverse → ℕ
 number (Undo h) = 0
 number (Refused c) = refusal c

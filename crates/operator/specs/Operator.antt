@@ -4,6 +4,7 @@ use mathlib.Core.Bool.{Bool, cond, _&&_, _||_}
 use Prim.Native.Nat.{ℕ}
 use lib.IntN.{ℤ, pos, negsuc, negℤ, _+ℤ_, _-ℤ_, _*ℤ_}
 use lib.Signed.{leZ}
+use Rattle.refusals.specs.Refusals.{outOfRange, oddParity, notSpecial}
 use Rattle.integers.specs.Parity.{even, half}
 use Rattle.ring.specs.declared.Point.{Point}
 use Rattle.operator.specs.declared.Operator.{Operator}
@@ -14,9 +15,9 @@ use Rattle.operator.specs.declared.Check.the-variants.{Special, OutOfRan
 -- the number of each case (SPEC, "Refusals"): 0 is accepted
 abbrev pub refusal : Check → ℕ
 refusal Special = 0
-refusal OutOfRange = 4
-refusal OddParity = 6
-refusal NotSpecial = 7
+refusal OutOfRange = outOfRange
+refusal OddParity = oddParity
+refusal NotSpecial = notSpecial
 
 -- the identity: G(1) = 1 and G(i) = i
 abbrev pub identity : Operator

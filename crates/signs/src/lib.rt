@@ -1,4 +1,5 @@
-// The sign of p + q√2, without a product, for numbers of one word and of two: the same text at every width.
+// The sign of p + q√2, without a product, for numbers of one word and of two: the same text at every width. The promise is one, `Signs` over ℤ; `wide_sign_of` keeps it for numbers of two
+// words, and the functions of one word are instances of it, for callers whose numbers fit.
 ghost use mathlib.Core.Path.{_≡_};
 ghost use Prim.Native.Nat.{_<_, _^_};
 ghost use Rattle.ring.specs.Sign.{Signs, gapSign, opposite, turn, ofPart, Root-near};
