@@ -18,6 +18,8 @@ mod session;
 mod tests;
 mod timing;
 mod walk;
+mod words;
+mod wording;
 
 use std::env;
 use std::error::Error;
@@ -47,6 +49,7 @@ const USAGE: &str = "usage: peer [list | count | first] < job
        peer entry K A B C D
        peer shortest < job
        peer session < calls
+       peer words SEED COUNT
        peer gen SEED COUNT DIR
        peer pack < records > job
        peer jobs DIR
@@ -97,6 +100,7 @@ fn run(arguments: &[String]) -> Outcome {
             let adversary = Adversary::new(number(seed)?, scales, number(slices)?);
             time(console, adversary, number(count)?, number(limit)?, calls.first())
         }
+        ("words", [seed, count]) => wording::print(number(seed)?, number(count)?),
         ("bytes", [program, from, to, step]) => {
             check_bytes(program, number(from)?, number(to)?, number(step)?)
         }
