@@ -187,6 +187,31 @@ calls() {
     done
 }
 
+# Calls on words, 20,000 of each on 65,536 bytes: a random word, one of gates, and a text. The
+# target of the cost is twice the plain C loop, of the text 200 megabytes a second.
+words() {
+    local word gates text name
+    word=$(awk 'BEGIN { srand(5); for (i = 0; i < 65536; i++) printf "%s", substr("HSTW", int(4 * rand()) + 1, 1) }')
+    gates=$(awk 'BEGIN { srand(6); while (n < 65536) { s = rand() < 0.5 ? "HT" : "SHT"; printf "%s", s; n += length(s) } }' | head -c 65536)
+    text=$(awk 'BEGIN { srand(7); for (i = 0; i < 8192; i++) printf "%s q[0];x", substr("hst", int(3 * rand()) + 1, 1) }')
+    "${CC:-cc}" -O2 -o "$scratch/plain" "$(dirname "$0")/word_timing.c" || exit 2
+    echo 'Calls on words: seconds, the plain C loop, the ratio; megabytes of text a second'
+    printed=/dev/null
+    for name in word gates; do
+        printf 'c%s' "${!name}" >"$scratch/input"
+        run "$list_limit" "$scratch/input" "$bin/word_timing"; ours=$took
+        run "$list_limit" "$scratch/input" "$scratch/plain"
+        printf '%-16s %8s %8s %6s\n' "cost $name" "$ours" "$took" "$(ratio "$ours" "$took")"
+    done
+    printed=$scratch/printed
+    printf 'w%s' "$gates" >"$scratch/input"
+    run "$list_limit" "$scratch/input" "$bin/word_timing"
+    printf '%-16s %8s %8s\n' write "$took" "$(awk -v t="$took" '{ printf "%.0f", $1 / t / 1e6 }' "$printed")"
+    printf 'r%s' "$text" | tr x '\n' >"$scratch/input"
+    run "$list_limit" "$scratch/input" "$bin/word_timing"
+    printf '%-16s %8s %8s\n' read "$took" "$(awk -v t="$took" '{ printf "%.0f", 8 * $1 / t / 1e6 }' "$printed")"
+}
+
 memory() {
     local k
     echo 'Memory of list, peak resident size in KB:'
@@ -314,6 +339,8 @@ echo
 calls
 echo
 hard_jobs
+echo
+words
 echo
 memory
 echo

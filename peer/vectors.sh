@@ -8,6 +8,7 @@
 #   DIR/tickets/t10                the same of trays, where `take` is the console's `tray`
 #   DIR/tickets/t01-member.txt     k | A or B | n zx zy w | v | yes or no
 #   DIR/tickets/t07-least.txt      job in hexadecimal | refused R, or scale, u, t
+#   DIR/tickets/t08-cost.txt and others   arguments | bytes (or repeated) | answer, as the console's calls on words and sheets
 # Older jobs gain `06 01` after their scale, so their refusals stand 2 bytes further on, and older last
 # columns are read as 2e - 2. Named as obsolete are older jobs with a kind or a scale that was refused then.
 set -u
@@ -168,6 +169,29 @@ check_lines() {
     echo "$1: $checked compared"
 }
 
+# check_words TABLE COMMAND: rows as lines of the session, repeated bytes written out. Texts have their bytes first.
+check_words() {
+    awk -F ' *[|] *' -v command="$2" '
+        function times(n, text, out) {
+            for (; n > 0; n = int(n / 2)) {
+                if (n % 2) out = out text
+                text = text text
+            }
+            return out
+        }
+        function plain(bytes, parts, n, i, run, out) {
+            if (bytes ~ /^8\*\(/) return times(8, plain(substr(bytes, 4, length(bytes) - 4)))
+            n = split(bytes, parts, ",")
+            for (i = 1; i <= n; i++)
+                out = out (split(parts[i], run, "*") == 2 ? times(run[1], run[2]) : parts[i])
+            return out == "-" ? "" : out
+        }
+        { print command, (command ~ /qasm/ ? $2 " " plain($1) : $1 " " plain($2)) }' "$1" >"$scratch/lines"
+    awk -F ' *[|] *' '{ print ($3 ~ /^refused/ ? "" : "ok" ($3 == "-" ? "" : " ")) ($3 == "-" ? "" : $3) }' "$1" >"$scratch/right"
+    "$peer" session <"$scratch/lines" | cmp -s - "$scratch/right" || differs "$1"
+    echo "$1: $(wc -l <"$scratch/lines") compared"
+}
+
 check_older "$directory/jobs"
 check_older "$directory/tickets/jobs/t01"
 check_older "$directory/tickets/jobs/t03"
@@ -179,6 +203,11 @@ check_calls "$directory/tickets/t11"
 check_calls "$directory/tickets/giant"
 check_members "$directory/tickets/t01-member.txt"
 check_shortest "$directory/tickets/t07-least.txt"
+check_words "$directory/tickets/t08-cost.txt" cost
+check_words "$directory/tickets/t12-write.txt" qasm
+check_words "$directory/tickets/t12-read.txt" unqasm
+check_words "$directory/tickets/t13-traycost.txt" tray-cost
+check_words "$directory/tickets/t14-sheet.txt" sheet
 check_signs "$directory/tables/sign.txt"
 check_signs "$directory/tickets/t09-sign.txt"
 check_lines "$directory/tables/line.txt"

@@ -14,12 +14,14 @@ mod pack;
 mod random;
 mod root2;
 mod session;
+mod t_count;
 #[cfg(test)]
 mod tests;
 mod timing;
 mod tray;
 mod walk;
 mod words;
+mod wording;
 
 use std::env;
 use std::error::Error;
@@ -50,7 +52,8 @@ const USAGE: &str = "usage: peer [list | count | first] < job
        peer entry K A B C D
        peer shortest < job
        peer session < calls
-       peer words LETTERS JOBS SEED [CONSOLE]
+       peer t-count LETTERS JOBS SEED [CONSOLE]
+       peer words SEED COUNT
        peer gen SEED COUNT DIR
        peer pack < records > job
        peer jobs DIR
@@ -88,9 +91,9 @@ fn run(arguments: &[String]) -> Outcome {
             let [p, q] = [p, q].map(|text| number::<i128>(text));
             say(root2::sign(p?, q?))
         }
-        ("words", [letters, jobs, seed, console @ ..]) if console.len() < 2 => {
+        ("t-count", [letters, jobs, seed, console @ ..]) if console.len() < 2 => {
             let console = console.first().map(String::as_str);
-            say(words::report(number(letters)?, number(jobs)?, number(seed)?, console)?)
+            say(t_count::report(number(letters)?, number(jobs)?, number(seed)?, console)?)
         }
         ("gen", [seed, count, directory]) => {
             generate(number(seed)?, number(count)?, Path::new(directory))
@@ -105,6 +108,7 @@ fn run(arguments: &[String]) -> Outcome {
             let adversary = Adversary::new(number(seed)?, scales, number(slices)?);
             time(console, adversary, number(count)?, number(limit)?, calls.first())
         }
+        ("words", [seed, count]) => wording::print(number(seed)?, number(count)?),
         ("bytes", [program, from, to, step]) => {
             check_bytes(program, number(from)?, number(to)?, number(step)?)
         }

@@ -7,6 +7,7 @@ use crate::job::{decode, fields, Job, Reading, OPERATOR};
 use crate::member::{Membership, Point};
 use crate::root2::Root2;
 use crate::walk::Walk;
+use crate::words::{self, Seen, Sheet, Tariff};
 
 /// The longest slice that a hand-out is lent.
 pub const LONGEST: usize = 4_096;
@@ -50,7 +51,7 @@ impl Session {
             }
             ("shortest", []) => self.shortest(),
             ("tally", []) => Ok(self.tally.iter().map(|count| format!(" {count}")).collect()),
-            _ => return None,
+            _ => stateless(command, rest)?,
         };
         Some(spoken(answer))
     }
@@ -110,6 +111,99 @@ pub fn spoken(answer: Answer) -> String {
         Ok(text) => format!("ok{text}"),
         Err(number) => format!("refused {number}"),
     }
+}
+
+/// The longest slice that a line or a word is written to.
+const ROOMIEST: usize = 65_536;
+
+/// The calls on words and sheets, which know no session.
+fn stateless(command: &str, rest: &[&str]) -> Option<Answer> {
+    Some(match command {
+        "cost" => {
+            let (tariff, memory, word) = priced(rest)?;
+            words::cost(&tariff, &word)
+                .map(|ticks| format!(" {ticks}{}", yes_or_no(ticks <= memory)))
+        }
+        "tray-cost" => {
+            let (tariff, memory, tray) = priced(rest)?;
+            words::tray_cost(&tariff, &tray).map(|ticks| yes_or_no(ticks <= memory))
+        }
+        "qasm" => {
+            let (room, word) = roomy(rest)?;
+            words::text(&word, room).map(|text| shown(hex(&text)))
+        }
+        "unqasm" => {
+            let (room, text) = roomy(rest)?;
+            words::word(&text, room).map(|word| shown(String::from_utf8_lossy(&word).into()))
+        }
+        "sheet" => {
+            let (reader, behind) = rest.split_first()?;
+            words::sheet(reader.parse().ok()?, &last(behind)?).map(|seen| match seen {
+                Seen::Desk(sheet) => format!(
+                    " 38 {}{}{} {}",
+                    sheet.k,
+                    spelled(sheet.u),
+                    spelled(sheet.t),
+                    sheet.ticks
+                ),
+                Seen::Crew(m, ticks) => format!(" 38 {m} {ticks}"),
+            })
+        }
+        "put-sheet" => {
+            let [room, k, u @ .., ticks] = rest else {
+                return None;
+            };
+            let parts: Vec<i32> = u.iter().map(|word| word.parse().ok()).collect::<Option<_>>()?;
+            let &[a, b, c, d, e, f, g, h] = parts.as_slice() else {
+                return None;
+            };
+            let point = |[a, b, c, d]: [i32; 4]| Point {
+                a: a.into(),
+                b: b.into(),
+                c: c.into(),
+                d: d.into(),
+            };
+            let (u, t) = (point([a, b, c, d]), point([e, f, g, h]));
+            let sheet = Sheet { k: k.parse().ok()?, u, t, ticks: ticks.parse().ok()? };
+            words::put_sheet(&sheet, size(room)?).map(|bytes| shown(hex(&bytes)))
+        }
+        _ => return None,
+    })
+}
+
+fn priced(rest: &[&str]) -> Option<(Tariff, u64, Vec<u8>)> {
+    let (numbers, behind) = rest.split_at_checked(5)?;
+    let numbers: Vec<u32> =
+        numbers.iter().map(|word| word.parse().ok()).collect::<Option<_>>()?;
+    let tariff = [numbers[0], numbers[1], numbers[2], numbers[3]];
+    Some((tariff, numbers[4].into(), last(behind)?))
+}
+
+fn roomy(rest: &[&str]) -> Option<(usize, Vec<u8>)> {
+    let (room, behind) = rest.split_first()?;
+    Some((size(room)?, last(behind)?))
+}
+
+fn size(word: &str) -> Option<usize> {
+    word.parse().ok().filter(|&room| room <= ROOMIEST)
+}
+
+/// The bytes of the last word, or none.
+fn last(behind: &[&str]) -> Option<Vec<u8>> {
+    match behind {
+        [] => Some(Vec::new()),
+        [digits] => bytes(digits),
+        _ => None,
+    }
+}
+
+fn hex(bytes: &[u8]) -> String {
+    bytes.iter().map(|byte| format!("{byte:02x}")).collect()
+}
+
+/// With a space before it, if there is anything.
+fn shown(text: String) -> String {
+    if text.is_empty() { text } else { format!(" {text}") }
 }
 
 /// Solutions lie in this range, and membership is exact in it.

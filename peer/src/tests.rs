@@ -10,7 +10,7 @@ use crate::member::{Membership, Point};
 use crate::pack;
 use crate::root2::{floor_root2, sign};
 use crate::walk::Walk;
-use crate::words;
+use crate::t_count;
 
 fn solutions(job: &Job) -> Vec<Point> {
     let mut found = Vec::new();
@@ -170,7 +170,7 @@ fn bench_jobs_are_accepted() {
 
 #[test]
 fn words() {
-    let report = words::report(6, 30, 1, None).unwrap();
+    let report = t_count::report(6, 30, 1, None).unwrap();
     let lines: Vec<&str> = report.lines().collect();
     assert_eq!(lines[0], "words: 5461, matrices: 315");
     assert!(lines[1].ends_with("158 matrices, with fewer T than m: 0"));

@@ -40,14 +40,16 @@ pub fn write(word: &[u8], text: &mut [u8]) -> Answer
 {
     let letters = alphabet::are_letters(word);
     let n = lines_of(word);
+    let fits = n <= text.len() / 8;
     if !letters {
         return Answer::Refused(Refusal::NotALetter);
     }
-    if text.len() / 8 < n {
+    if !fits {
         return Answer::Refused(Refusal::NoRoom);
     }
     put_lines(word, text);
-    Answer::Wrote(8 * n)
+    let size = 8 * n;
+    Answer::Wrote(size)
 }
 
 // The word of a text.

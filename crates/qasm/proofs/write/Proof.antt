@@ -1,6 +1,9 @@
 use mathlib.Core.Path.{_≡_, sym, _∙_}
 use mathlib.Core.Bool.{true}
-use borrow.Author.Tests.{not-true, not-false}
+use Prim.Native.Nat.{_/_, _≤_}
+use native.Mathlib.Omega.{arith}
+use lib.ListN.{length}
+use borrow.Author.Tests.{not-true, not-false, leb-true, leb-false}
 use Rattle.alphabet.specs.Letters.{areLetters}
 use Rattle.qasm.proofs.Answers.{write-none, write-full, write-done}
 use borrow.Author.Needs.{needs}
@@ -26,13 +29,17 @@ returns-2 : tie.Need-returns-2
 returns-2 c =
     let n = c .before .before in
     let s = c .before .before .before .before .before .before in
-    write-full (s .args .word .now) (s .args .text .now) (good (c .before)) (n .lines-of .result) (n .lines-of .ensures) (c .if2 .taken)
+    write-full (s .args .word .now) (s .args .text .now) (good (c .before)) (n .lines-of .result) (n .lines-of .ensures) (leb-false _ _ (not-true _ (c .if2 .taken)))
+
+-- past the second the text has room
+room : (c : tie.Else2) → c .before .before .lines-of .result ≤ length (c .before .before .before .before .before .before .args .text .now) / 8
+room c = leb-true _ _ (not-false _ (c .if2 .left))
 
 put-lines-requires : tie.Need-put-lines-requires
-put-lines-requires c κs = search needs
+put-lines-requires c κs = let h = room (c .before) in omega (arith, c .before .before .before .lines-of .ensures)
 
-mul-t7 : tie.Need-mul-t7
-mul-t7 c = search needs
+mul-size : tie.Need-mul-size
+mul-size c = let h = room (c .before .before .before .before) in omega arith
 
 same-length : tie.Need-same-length
 same-length c = search needs
@@ -43,7 +50,7 @@ returns-3 c =
     let e = p .before .before in
     let n = e .before .before in
     let s = e .before .before .before .before .before .before in
-    write-done (s .args .word .now) (s .args .text .now) (good (e .before)) (n .lines-of .result) (n .lines-of .ensures) (e .if2 .left) (p .put-lines .ensures)
+    write-done (s .args .word .now) (s .args .text .now) (good (e .before)) (n .lines-of .result) (n .lines-of .ensures) (room e) (p .put-lines .ensures)
 
 pub write-spec : {M : Type 1} → statement M
 write-spec =
@@ -54,6 +61,6 @@ write-spec =
     returns
     returns-2
     put-lines-requires
-    mul-t7
+    mul-size
     same-length
     returns-3)

@@ -2,8 +2,8 @@ use mathlib.Core.Path.{sym}
 use native.Mathlib.Omega.{arith}
 use lib.Seq.{length-take-le}
 use borrow.Author.Needs.{needs}
-use Rattle.quoted.proofs.cells.holds.Statement.{statement}
-use Rattle.quoted.proofs.cells.holds.Tie as tie
+use Rattle.desk_tables.proofs.cells.holds.Statement.{statement}
+use Rattle.desk_tables.proofs.cells.holds.Tie as tie
 
 slice-aggregate-same : tie.Need-slice-aggregate-same
 slice-aggregate-same c = sym (length-take-le _ _ (omega arith))

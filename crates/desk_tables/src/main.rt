@@ -1,6 +1,7 @@
 // Compares tables of another implementation (data/, one row a line) with the calls of `tariff`, `qasm` and `sheet`, and prints how many rows differ.
 mod cells;
 mod quotes;
+mod runs;
 mod sheets;
 mod texts;
 
@@ -11,7 +12,9 @@ use table_rows::Tally;
 
 enum Table {
     Costs,
+    CostRuns,
     Trays,
+    TrayRuns,
     Written,
     Read,
     Sheets,
@@ -19,7 +22,9 @@ enum Table {
 
 fn main() {
     compare_file(b"cost", b"cost.txt", Table::Costs);
+    compare_file(b"cost_runs", b"cost_runs.txt", Table::CostRuns);
     compare_file(b"tray", b"tray.txt", Table::Trays);
+    compare_file(b"tray_runs", b"tray_runs.txt", Table::TrayRuns);
     compare_file(b"write", b"write.txt", Table::Written);
     compare_file(b"read", b"read.txt", Table::Read);
     compare_file(b"sheet", b"sheet.txt", Table::Sheets);
@@ -67,7 +72,9 @@ fn cells_right(s: &[u8], x: Cell, y: Cell, z: Cell, table: Table) -> bool
 fn right(x: &[u8], y: &[u8], z: &[u8], table: Table) -> bool {
     match table {
         Table::Costs => quotes::right(x, y, z, false),
+        Table::CostRuns => runs::right(x, y, z, false),
         Table::Trays => quotes::right(x, y, z, true),
+        Table::TrayRuns => runs::right(x, y, z, true),
         Table::Written => texts::right(x, y, z, false),
         Table::Read => texts::right(x, y, z, true),
         Table::Sheets => sheets::right(x, y, z),

@@ -1,8 +1,8 @@
 use mathlib.Core.Path.{sym}
 use lib.Seq.{length-take-le}
 use borrow.Author.Needs.{needs}
-use Rattle.quoted.proofs.cells.within.Statement.{statement}
-use Rattle.quoted.proofs.cells.within.Tie as tie
+use Rattle.desk_tables.proofs.cells.within.Statement.{statement}
+use Rattle.desk_tables.proofs.cells.within.Tie as tie
 
 returns : tie.Need-returns
 returns c = (c .if1 .taken, sym (length-take-le _ _ (c .if1 .taken)))

@@ -56,7 +56,8 @@ pub fn bytes_of(x: &[u8], out: &mut [u8]) -> usize
     }
 }
 
-fn within(n: usize, s: &[u8]) -> usize
+// A number of bytes, where a slice has as many, else 0.
+pub fn within(n: usize, s: &[u8]) -> usize
     ensures { λ r. ⌜ Counts r (now (s .entry)) ⌝ }
 {
     if n <= s.len() { n } else { 0 }

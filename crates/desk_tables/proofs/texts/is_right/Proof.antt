@@ -2,8 +2,8 @@ use mathlib.Core.Path.{sym}
 use native.Mathlib.Omega.{arith}
 use lib.Seq.{length-take-le}
 use borrow.Author.Needs.{needs}
-use Rattle.quoted.proofs.texts.is_right.Statement.{statement}
-use Rattle.quoted.proofs.texts.is_right.Tie as tie
+use Rattle.desk_tables.proofs.texts.is_right.Statement.{statement}
+use Rattle.desk_tables.proofs.texts.is_right.Tie as tie
 
 returns : tie.Need-returns
 returns c = search needs

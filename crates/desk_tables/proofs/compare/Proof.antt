@@ -1,8 +1,8 @@
 use Prim.Native.Nat.{_-_}
 use lib.ListN.{length}
 use borrow.Author.Needs.{needs}
-use Rattle.quoted.proofs.compare.Statement.{statement}
-use Rattle.quoted.proofs.compare.Tie as tie
+use Rattle.desk_tables.proofs.compare.Statement.{statement}
+use Rattle.desk_tables.proofs.compare.Tie as tie
 
 abbrev Inv-loop : tie.InvT-loop
 Inv-loop s table t₀ at₀ t at = Unit {0}

@@ -4,6 +4,13 @@ use tariff::Answer;
 use tariff::Tariff;
 
 pub fn right(x: &[u8], y: &[u8], z: &[u8], tray: bool) -> bool {
+    let mut space = io::buffer();
+    let k = cells::bytes_of(y, &mut space);
+    answered(x, &space[..k], z, tray)
+}
+
+// Whether the library answers for a word, or a tray, what a cell says.
+pub fn answered(x: &[u8], word: &[u8], z: &[u8], tray: bool) -> bool {
     let n = wording::numbers_from(x, 0);
     let v = n.values;
     let p = Tariff {
@@ -12,10 +19,7 @@ pub fn right(x: &[u8], y: &[u8], z: &[u8], tray: bool) -> bool {
         t: cells::size(v[2]),
         w: cells::size(v[3]),
     };
-    let memory = cells::size(v[4]);
-    let mut space = io::buffer();
-    let k = cells::bytes_of(y, &mut space);
-    is_answer(z, asked(p, &space[..k], memory, tray), tray)
+    is_answer(z, asked(p, word, cells::size(v[4]), tray), tray)
 }
 
 fn asked(p: Tariff, word: &[u8], memory: u32, tray: bool) -> Answer {
