@@ -20,7 +20,7 @@ use Rattle.trays.specs.Bits.{some-of, some-one}
 abbrev pub listedBy : Tray → Point → Bool
 listedBy t v = some (size t) (λ j. listed (jobAt t j) v)
 
-listed-by-fits : (t : Tray) (v : Point) → listedBy t v ≡ true → Fits32 v
+pub listed-by-fits : (t : Tray) (v : Point) → listedBy t v ≡ true → Fits32 v
 listed-by-fits t v e = let i = some-one (size t) (λ j. listed (jobAt t j) v) e in listed-fits (jobAt t (i .0)) v (i .2)
 
 pub by-one : (t : Tray) (v : Point) → (listedBy t v ≡ true) ↔ ((j : ℕ) × (j < size t) × (listed (jobAt t j) v ≡ true))
