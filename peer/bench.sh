@@ -58,6 +58,23 @@ whole_lists() {
     done
 }
 
+# The least that writing can take: peer/limit.c formats and writes the same lines
+# from points in memory. The target is 8 times that for a whole list at k = 10.
+limit() {
+    local name points
+    command -v cc >/dev/null || { echo 'The limit: no C compiler here'; return; }
+    cc -O3 -march=native -o "$scratch/limit" "$(dirname "$0")/limit.c" || exit 2
+    echo 'The limit, formatting and writing alone, nanoseconds a line; the whole list, and the ratio'
+    for name in disks-k10 whole-long-thin-k10; do
+        printed=$scratch/printed
+        run "$list_limit" "$jobs/$name.job" "$bin/list"
+        points=$(tail -n 1 "$printed" | sed 's/^end //')
+        "$scratch/limit" "$printed" >/dev/null 2>"$scratch/said"
+        awk -v name="$name" -v t="$took" -v n="$points" \
+            '{ printf "%-24s %8s %8.2f %6.1f\n", name, $1, t * 1e9 / n, t * 1e9 / n / $1 }' "$scratch/said"
+    done
+}
+
 # Unit disks at scales above 12, whose lists are too long to be taken whole:
 # the first points, 1,024 in a call. The target is 0.2 µs a point.
 deep_lists() {
@@ -323,6 +340,8 @@ hard_jobs() {
 }
 
 whole_lists
+echo
+limit
 echo
 deep_lists
 echo

@@ -161,8 +161,8 @@ fn patterns() -> Vec<Named> {
     jobs
 }
 
-/// Skewed ellipses on both sides whose lists are not too long, and a tiny disk
-/// against a huge one.
+/// Skewed ellipses on both sides whose lists are not too long, a long thin A, and
+/// a tiny disk against a huge one.
 fn whole() -> Vec<Named> {
     let sizes =
         [(0, 1_000_000), (4, 1_000_000), (4, 10_000), (8, 10_000), (8, 100), (12, 100), (12, 1)];
@@ -177,6 +177,10 @@ fn whole() -> Vec<Named> {
         let a = ellipse(7, [123, -456], [83, -91, 100], 1_000);
         let b = ellipse(7, [-30, 40], [82, 73, 65], 1_000);
         jobs.push(job(format!("whole-n7-S1000-off-k{k:02}"), k, &a, &b));
+    }
+    let long = ellipse(1, [0, 0], [1, 0, 100], 16);
+    for k in [8, 10] {
+        jobs.push(job(format!("whole-long-thin-k{k:02}"), k, &long, &disk()));
     }
     let (tiny, huge) =
         (ellipse(100, [0, 0], [100, 0, 100], 4_144), ellipse(1, [0, 0], DISK, 1_000_000));

@@ -13,6 +13,10 @@ coordinateText z = signedDecimal z ++ (32 ∷ [])
 unfoldable pub countText : ℕ → ℕ → List ℕ
 countText n mark = decimal n ++ (mark ∷ [])
 
+-- how the line of a solution begins, `a b c `
+unfoldable pub headText : Point → List ℕ
+headText v = coordinateText (v .a) ++ coordinateText (v .b) ++ coordinateText (v .c)
+
 -- the line `a b c d e m` of a solution
 unfoldable pub pointLine : ℕ → Point → List ℕ
 pointLine k v =

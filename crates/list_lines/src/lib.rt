@@ -1,5 +1,6 @@
 // The lines that the list program prints: SPEC, "List program". A hand-out's points, the count at the end, a refusal, an input that is too long.
 ghost use mathlib.Core.Path.{_≡_};
+ghost use mathlib.Core.Bool.{false};
 ghost use Prim.Native.Nat.{_+_, _*_, _≤_};
 ghost use lib.ListN.{length, take};
 ghost use Rattle.io.specs.Counts.{Counts};
@@ -8,7 +9,7 @@ ghost use Rattle.text.specs.Decimal.{decimal};
 ghost use Rattle.words.specs.Meaning.{sizeOf};
 ghost use Rattle.text.specs.Written.{written, after};
 ghost use Rattle.kinds.specs.Kinds.{number};
-ghost use Rattle.list_lines.specs.Lines.{coordinateText, countText, pointLine, linesOf, endLine, refusalLine, tooLongLine};
+ghost use Rattle.list_lines.specs.Lines.{coordinateText, headText, countText, pointLine, linesOf, endLine, refusalLine, tooLongLine};
 use kinds::Refusal;
 use ring::Point;
 use words::Size;
@@ -18,25 +19,60 @@ pub fn put_points(out: &mut [u8], points: &[i32], n: usize, k: u8) -> usize
     requires { ⌜ (4 * n ≤ length (now points)) × (126 * n ≤ length (now out)) ⌝ }
     ensures { λ r. ⌜ Appended (now (out .entry)) 0 (linesOf k (take (4 * n) (now (points .entry)))) (now (out .exit)) r ⌝ }
 {
+    let mut last = Point {
+        a: 0,
+        b: 0,
+        c: 0,
+        d: 0,
+    };
+    let mut head = [0u8; 63];
+    let mut length = put_head(&mut head, last);
     let mut at = 0;
     let mut i = 0;
     while i < n {
-        at = put_point(out, at, points::point_at(points, i), k);
+        let v = points::point_at(points, i);
+        if begins_row(last, v) {
+            length = put_head(&mut head, v);
+        }
+        at = put_point(out, at, &head[..length], v, k);
+        last = v;
         i += 1;
     }
     at
 }
 
-// `a b c d e m`.
-fn put_point(out: &mut [u8], at: usize, v: Point, k: u8) -> usize
-    requires { ⌜ at + 126 ≤ length (now out) ⌝ }
+// Whether a point stands in another row than the one before it, so that its line begins anew.
+fn begins_row(u: Point, v: Point) -> bool
+    ensures { λ r. ⌜ (r ≡ false → headText u ≡ headText v) ⌝ }
+{
+    if u.a == v.a {
+        if u.b == v.b {
+            if u.c == v.c {
+                return false;
+            }
+        }
+    }
+    true
+}
+
+// `a b c `, and its length.
+fn put_head(head: &mut [u8], v: Point) -> usize
+    requires { ⌜ length (now head) ≡ 63 ⌝ }
+    ensures { λ r. ⌜ Appended (now (head .entry)) 0 (headText v) (now (head .exit)) r × (r ≤ 63) ⌝ }
+{
+    let b = put_coordinate(head, 0, v.a);
+    let c = put_coordinate(head, b, v.b);
+    put_coordinate(head, c, v.c)
+}
+
+// `a b c d e m`, where the head is `a b c `.
+fn put_point(out: &mut [u8], at: usize, head: &[u8], v: Point, k: u8) -> usize
+    requires { ⌜ (at + 126 ≤ length (now out)) × (now head ≡ headText v) × (length (now head) ≤ 63) ⌝ }
     ensures { λ r. ⌜ Appended (now (out .entry)) at (pointLine k v) (now (out .exit)) r × (r ≤ at + 126) ⌝ }
 {
     let e = v.exponent(k);
     let m = ring::pulse_count(e);
-    let b = put_coordinate(out, at, v.a);
-    let c = put_coordinate(out, b, v.b);
-    let d = put_coordinate(out, c, v.c);
+    let d = text::put_bytes(out, at, head);
     let f = put_coordinate(out, d, v.d);
     let g = put_count(out, f, e as u64, b' ');
     put_count(out, g, m, b'\n')

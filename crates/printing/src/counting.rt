@@ -24,7 +24,7 @@ pub(crate) fn count(s: Session) -> Size {
     total
 }
 
-// One hand-out of at most 1,024 points without its lines.
+// One hand-out of at most 4,096 points without its lines.
 fn count_page(s: Session) -> Page
     ensures { λ r. ⌜ (r .more ≡ true → leftOf (meaning (r .session)) < leftOf (meaning s)) ⌝ }
 {
@@ -48,8 +48,8 @@ fn count_page(s: Session) -> Page
     }
 }
 
-fn point_buffer() -> [i32; 4096]
-    ensures { λ r. ⌜ 4096 ≡ length r ⌝ }
+fn point_buffer() -> [i32; 16384]
+    ensures { λ r. ⌜ 16384 ≡ length r ⌝ }
 {
-    [0; 4096]
+    [0; 16384]
 }

@@ -1,45 +1,31 @@
--- `put_point` meets its contract: six texts, each after the one before. Assumes nothing.
+-- `put_point` meets its contract: the head and three texts, each after the one before. Assumes nothing.
 use Prim.Native.Nat.{ℕ, _+_, _≤_}
-use mathlib.Core.Path.{_≡_, refl, subst}
+use mathlib.Core.Path.{_≡_, refl, sym, ap, subst}
 use mathlib.Core.List.{List, _++_}
 use native.Mathlib.Omega.{arith}
+use lib.ListN.{length}
 use mir.Syntax.{w32}
 use mir.Val.{SFits}
 use mir.Facts.{toZ-ofZ}
 use borrow.Author.Needs.{needs}
 use Rattle.ring.specs.declared.Point.{Point}
 use Rattle.ring.specs.Point.Exponent.{exponentOf, pulseCount}
-use Rattle.text.specs.Append.{Appended, append-more}
-use Rattle.list_lines.specs.Lines.{coordinateText, countText, pointLine}
+use Rattle.text.specs.Append.{Appended, appended, append-more}
+use Rattle.list_lines.specs.Lines.{coordinateText, headText, countText, pointLine}
 use Rattle.list_lines.proofs.put_point.Statement.{statement}
 use Rattle.list_lines.proofs.put_point.Tie as tie
 
-numbers : Point → List ℕ
-numbers v = coordinateText (v .a) ++ coordinateText (v .b) ++ coordinateText (v .c) ++ coordinateText (v .d)
-
-line : (k : ℕ) (v : Point) (e m : ℕ) → e ≡ exponentOf k v → m ≡ pulseCount e → numbers v ++ countText e 32 ++ countText m 10 ≡ pointLine k v
-unfolding pointLine numbers
+line : (k : ℕ) (v : Point) (e m : ℕ) → e ≡ exponentOf k v → m ≡ pulseCount e → headText v ++ coordinateText (v .d) ++ countText e 32 ++ countText m 10 ≡ pointLine k v
+unfolding pointLine headText
 line k v e m p q = rw (q, p) refl
 
--- what stands after the five numbers before the last
-module _ (c : tie.After-put-count) where
-  abbrev z4 : tie.After-put-coordinate4
-  z4 = c .before .before .before .before
-
-  abbrev z3 : tie.After-put-coordinate3
-  z3 = z4 .before .before .before .before .before
-
-  abbrev z2 : tie.After-put-coordinate2
-  z2 = z3 .before .before .before .before .before
-
-  abbrev z1 : tie.After-put-coordinate
-  z1 = z2 .before .before .before .before .before
-
+-- the head stands, and has room
+module _ (h : tie.After-put-bytes) where
   abbrev counted : tie.After-pulse-count
-  counted = z1 .before .before .before
+  counted = h .before .before
 
   abbrev start : tie.Start
-  start = counted .before .before .before
+  start = counted .before .before .before .before
 
   abbrev xs : List ℕ
   xs = start .args .out .now
@@ -47,41 +33,42 @@ module _ (c : tie.After-put-count) where
   abbrev v : Point
   v = start .args .v
 
+  short-head : length (headText v) ≤ 63
+  short-head = let e = ap length (start .pre .1) in let l = start .pre .2 in omega arith
+
+  begun : Appended xs (start .args .at) (headText v) (h .put-bytes .last .0) (h .put-bytes .result)
+  begun =
+      let l = short-head in
+      let r = start .pre .0 in
+      let e = rw (start .pre .1) at (h .put-bytes .ensures) in
+      appended xs (start .args .at) (headText v) (h .put-bytes .last .0) (h .put-bytes .result) (omega arith) (e .0) (e .1)
+
+-- what stands after the five numbers before the last
+module _ (c : tie.After-put-count) where
+  abbrev z : tie.After-put-coordinate
+  z = c .before .before .before .before
+
+  abbrev h : tie.After-put-bytes
+  h = z .before .before .before .before .before
+
   abbrev front : List ℕ
-  front = numbers v ++ countText (counted .before .exponent .result) 32
+  front = headText (v h) ++ coordinateText (v h .d) ++ countText (counted h .before .exponent .result) 32
 
-  stands : Appended xs (start .args .at) front (c .put-count .last .0) (c .put-count .result)
-  unfolding numbers
+  stands : Appended (xs h) (start h .args .at) front (c .put-count .last .0) (c .put-count .result)
   stands =
-      let at = start .args .at in
-      let ha : SFits w32 (v .a) = search needs in
-      let hb : SFits w32 (v .b) = search needs in
-      let hc : SFits w32 (v .c) = search needs in
-      let hd : SFits w32 (v .d) = search needs in
-      let m1 = z1 .put-coordinate .last .0 in
-      let m2 = z2 .put-coordinate2 .last .0 in
-      let m3 = z3 .put-coordinate3 .last .0 in
-      let m4 = z4 .put-coordinate4 .last .0 in
-      let a1 : Appended xs at (coordinateText (v .a)) m1 (z1 .put-coordinate .result) = rw (toZ-ofZ ha) at (z1 .put-coordinate .ensures .0) in
-      let a2 = append-more xs at (coordinateText (v .a)) (coordinateText (v .b)) m1 m2 (z1 .put-coordinate .result) (z2 .put-coordinate2 .result) a1 (rw (toZ-ofZ hb) at (z2 .put-coordinate2 .ensures .0)) in
-      let a3 = append-more xs at (coordinateText (v .a) ++ coordinateText (v .b)) (coordinateText (v .c)) m2 m3 (z2 .put-coordinate2 .result) (z3 .put-coordinate3 .result) a2 (rw (toZ-ofZ hc) at (z3 .put-coordinate3 .ensures .0)) in
-      let a4 =
-      append-more xs at (coordinateText (v .a) ++ coordinateText (v .b) ++ coordinateText (v .c)) (coordinateText (v .d)) m3 m4 (z3 .put-coordinate3 .result) (z4 .put-coordinate4 .result) a3
-      (rw (toZ-ofZ hd) at (z4 .put-coordinate4 .ensures .0)) in
-      append-more xs at (coordinateText (v .a) ++ coordinateText (v .b) ++ coordinateText (v .c) ++ coordinateText (v .d)) (countText (counted .before .exponent .result) 32) m4
-      (c .put-count .last .0)
-      (z4 .put-coordinate4 .result)
-      (c .put-count .result)
-      a4
-      (c .put-count .ensures .0)
+      let at = start h .args .at in
+      let hd : SFits w32 (v h .d) = search needs in
+      let m1 = h .put-bytes .last .0 in
+      let m2 = z .put-coordinate .last .0 in
+      let a2 = append-more (xs h) at (headText (v h)) (coordinateText (v h .d)) m1 m2 (h .put-bytes .result) (z .put-coordinate .result) (begun h) (rw (toZ-ofZ hd) at (z .put-coordinate .ensures .0)) in
+      append-more (xs h) at (headText (v h) ++ coordinateText (v h .d)) (countText (counted h .before .exponent .result) 32) m2 (c .put-count .last .0) (z .put-coordinate .result) (c .put-count .result) a2 (c .put-count .ensures .0)
 
-  short : c .put-count .result ≤ start .args .at + 105
+  short : c .put-count .result ≤ start h .args .at + 105
   short =
-      let b1 = z1 .put-coordinate .ensures .1 in
-      let b2 = z2 .put-coordinate2 .ensures .1 in
-      let b3 = z3 .put-coordinate3 .ensures .1 in
-      let b4 = z4 .put-coordinate4 .ensures .1 in
-      let b5 = c .put-count .ensures .1 in
+      let l = short-head h in
+      let b1 = begun h .end in
+      let b2 = z .put-coordinate .ensures .1 in
+      let b3 = c .put-count .ensures .1 in
       omega arith
 
 exponent-requires : tie.Need-exponent-requires
@@ -90,46 +77,60 @@ exponent-requires c κs = search needs
 pulse-count-requires : tie.Need-pulse-count-requires
 pulse-count-requires c κs = search needs
 
+put-bytes-requires : tie.Need-put-bytes-requires
+put-bytes-requires c κs = search needs
+
 put-coordinate-requires : tie.Need-put-coordinate-requires
-put-coordinate-requires c κs = search needs
-
-put-coordinate-requires-2 : tie.Need-put-coordinate-requires-2
-put-coordinate-requires-2 c κs = search needs
-
-put-coordinate-requires-3 : tie.Need-put-coordinate-requires-3
-put-coordinate-requires-3 c κs = search needs
-
-put-coordinate-requires-4 : tie.Need-put-coordinate-requires-4
-put-coordinate-requires-4 c κs = search needs
+put-coordinate-requires c κs =
+    let h = c .before .before .before .before in
+    let l = short-head h in
+    let b = begun h in
+    let e = b .end in
+    let s = b .same in
+    let r = start h .pre .0 in
+    omega arith
 
 cast-put-count : tie.Need-cast-put-count
 cast-put-count c = search needs
 
 put-count-requires : tie.Need-put-count-requires
-put-count-requires c κs = search needs
+put-count-requires c κs =
+    let z = c .before .before .before in
+    let h = z .before .before .before .before .before in
+    let l = short-head h in
+    let e = begun h .end in
+    let f = begun h .same in
+    let b = z .put-coordinate .ensures .1 in
+    let s = z .put-coordinate .ensures .0 .same in
+    let r = start h .pre .0 in
+    omega arith
 
 put-count-requires-2 : tie.Need-put-count-requires-2
 put-count-requires-2 c κs =
     let p = c .before .before .before in
     let l = stands p .same in
     let s = short p in
-    let h = start p .pre in
+    let r = start (h p) .pre .0 in
     rw l (omega arith)
 
 same-length : tie.Need-same-length
-same-length c = search needs
+same-length c =
+    let q = c .before .before in
+    let p = q .before .before .before .before in
+    search needs
 
 returns : tie.Need-returns
 returns c =
     let q = c .before .before in
     let p = q .before .before .before .before in
-    let e = counted p .before .exponent .ensures in
-    let m = counted p .pulse-count .ensures in
+    let b = h p in
+    let e = counted b .before .exponent .ensures in
+    let m = counted b .pulse-count .ensures in
     let last = q .put-count2 .ensures in
-    let all = append-more (xs p) (start p .args .at) (front p) (countText (counted p .pulse-count .result) 10) (p .put-count .last .0) (q .put-count2 .last .0) (p .put-count .result) (q .put-count2 .result) (stands p) (last .0) in
+    let all = append-more (xs b) (start b .args .at) (front p) (countText (counted b .pulse-count .result) 10) (p .put-count .last .0) (q .put-count2 .last .0) (p .put-count .result) (q .put-count2 .result) (stands p) (last .0) in
     let s = short p in
-    let b = last .1 in
-    (subst (λ (l : List ℕ). Appended (xs p) (start p .args .at) l (q .put-count2 .last .0) (q .put-count2 .result)) (line (start p .args .k) (v p) (counted p .before .exponent .result) (counted p .pulse-count .result) e m) all, omega arith)
+    let l = last .1 in
+    (subst (λ (t : List ℕ). Appended (xs b) (start b .args .at) t (q .put-count2 .last .0) (q .put-count2 .result)) (line (start b .args .k) (v b) (counted b .before .exponent .result) (counted b .pulse-count .result) e m) all, omega arith)
 
 pub put-point-spec : {M : Type 1} → statement M
 put-point-spec =
@@ -137,10 +138,8 @@ put-point-spec =
     (tie.spec
     exponent-requires
     pulse-count-requires
+    put-bytes-requires
     put-coordinate-requires
-    put-coordinate-requires-2
-    put-coordinate-requires-3
-    put-coordinate-requires-4
     cast-put-count
     put-count-requires
     put-count-requires-2
