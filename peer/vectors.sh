@@ -4,7 +4,8 @@
 #   DIR/tables/sign.txt            p q sign
 #   DIR/tables/line.txt            na lo hi nb lo hi | after | space | answer
 #   DIR/tickets/jobs/tNN           the same as jobs, after ticket NN and all smaller numbers
-#   DIR/tickets/t05, giant         NAME.calls, NAME.out: calls of a session, and their answers
+#   DIR/tickets/t05, t11, giant    NAME.calls, NAME.out: calls of a session, and their answers
+#   DIR/tickets/t10                the same of trays, where `take` is the console's `tray`
 #   DIR/tickets/t01-member.txt     k | A or B | n zx zy w | v | yes or no
 #   DIR/tickets/t07-least.txt      job in hexadecimal | refused R, or scale, u, t
 # Older jobs gain `06 01` after their scale, so their refusals stand 2 bytes further on, and older last
@@ -81,7 +82,16 @@ check_jobs() {
 check_calls() {
     local calls checked=0
     for calls in "$1"/[0-9][0-9].calls; do
-        timeout 60 "$peer" session <"$calls" | cmp -s - "${calls%.calls}.out" || differs "$calls"
+        sed 's/^least$/shortest/' "$calls" | timeout 60 "$peer" session | cmp -s - "${calls%.calls}.out" || differs "$calls"
+        checked=$((checked + 1))
+    done
+    echo "$1: $checked compared"
+}
+
+check_trays() {
+    local calls checked=0
+    for calls in "$1"/[0-9][0-9].calls; do
+        sed -e 's/^take/tray/' -e 's/^\(hand\|rewind\|clear\)/tray-\1/' "$calls" | timeout 60 "$peer" session | cmp -s - "${calls%.calls}.out" || differs "$calls"
         checked=$((checked + 1))
     done
     echo "$1: $checked compared"
@@ -164,6 +174,8 @@ check_older "$directory/tickets/jobs/t03"
 check_jobs "$directory/tickets/jobs/t05"
 check_jobs "$directory/tickets/jobs/t09"
 check_calls "$directory/tickets/t05"
+check_trays "$directory/tickets/t10"
+check_calls "$directory/tickets/t11"
 check_calls "$directory/tickets/giant"
 check_members "$directory/tickets/t01-member.txt"
 check_shortest "$directory/tickets/t07-least.txt"

@@ -122,21 +122,14 @@ impl Reading {
     /// Takes one record from the front of `bytes`. Returns its length, or the
     /// number of the refusal.
     pub fn take(&mut self, bytes: &[u8]) -> Result<usize, u8> {
-        let kind = *bytes.first().ok_or(1)?;
-        let fields = fields(kind).ok_or(2)?;
-        if !self.is_turn_of(kind) {
-            return Err(8);
-        }
-        let length = body_length(fields);
-        let body = bytes.get(1..1 + length).ok_or(3)?;
-        let values = decode(fields, body).ok_or(4)?;
+        let (kind, values, length) = record(bytes, |kind| self.is_turn_of(kind))?;
         match kind {
             SCALE => self.k = Some(values[0] as u32),
             SELECTION => self.all = Some(values[0] == 1),
             OPERATOR => check_operator(&values)?,
             _ => self.add_region(region(kind, &values)?),
         }
-        Ok(1 + length)
+        Ok(length)
     }
 
     fn add_region(&mut self, region: Region) {
@@ -150,6 +143,26 @@ impl Reading {
     pub fn job(&self) -> Option<Job> {
         Some(Job { k: self.k?, all: self.all.unwrap_or(false), a: self.a?, b: self.b? })
     }
+}
+
+/// One record from the front of `bytes`: its kind, its values and its length,
+/// or the number of the refusal.
+fn record(bytes: &[u8], is_turn_of: impl Fn(u8) -> bool) -> Result<(u8, Vec<i64>, usize), u8> {
+    let kind = *bytes.first().ok_or(1)?;
+    let fields = fields(kind).ok_or(2)?;
+    if !is_turn_of(kind) {
+        return Err(8);
+    }
+    let length = body_length(fields);
+    let body = bytes.get(1..1 + length).ok_or(3)?;
+    Ok((kind, decode(fields, body).ok_or(4)?, 1 + length))
+}
+
+/// One region record from the front of `bytes`, and its length.
+pub fn read_region(bytes: &[u8]) -> Result<(Region, usize), u8> {
+    let is_region = |kind| matches!(kind, RECTANGLE | ELLIPSE | SLICE);
+    let (kind, values, length) = record(bytes, is_region)?;
+    Ok((region(kind, &values)?, length))
 }
 
 /// Reads all records of an input.

@@ -17,7 +17,9 @@ mod session;
 #[cfg(test)]
 mod tests;
 mod timing;
+mod tray;
 mod walk;
+mod words;
 
 use std::env;
 use std::error::Error;
@@ -37,6 +39,7 @@ use lines::Lines;
 use member::Point;
 use session::Session;
 use timing::Console;
+use tray::Trays;
 use walk::Walk;
 
 const LONGEST_INPUT: usize = 65_536;
@@ -47,6 +50,7 @@ const USAGE: &str = "usage: peer [list | count | first] < job
        peer entry K A B C D
        peer shortest < job
        peer session < calls
+       peer words LETTERS JOBS SEED [CONSOLE]
        peer gen SEED COUNT DIR
        peer pack < records > job
        peer jobs DIR
@@ -83,6 +87,10 @@ fn run(arguments: &[String]) -> Outcome {
         ("sign", [p, q]) => {
             let [p, q] = [p, q].map(|text| number::<i128>(text));
             say(root2::sign(p?, q?))
+        }
+        ("words", [letters, jobs, seed, console @ ..]) if console.len() < 2 => {
+            let console = console.first().map(String::as_str);
+            say(words::report(number(letters)?, number(jobs)?, number(seed)?, console)?)
         }
         ("gen", [seed, count, directory]) => {
             generate(number(seed)?, number(count)?, Path::new(directory))
@@ -221,11 +229,12 @@ fn shortest(job: &Job) -> Outcome {
 
 /// Answers lines of calls as a console does, those of a session alone.
 fn session() -> Outcome {
-    let mut session = Session::default();
+    let (mut session, mut trays) = (Session::default(), Trays::default());
     for line in io::stdin().lines() {
         let line = line?;
         if !line.is_empty() && !line.starts_with('#') {
-            say(session.answer(&line).unwrap_or_else(|| "bad line".into()))?;
+            let answer = session.answer(&line).or_else(|| trays.answer(&line));
+            say(answer.unwrap_or_else(|| "bad line".into()))?;
         }
     }
     Ok(())

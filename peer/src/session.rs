@@ -9,7 +9,10 @@ use crate::root2::Root2;
 use crate::walk::Walk;
 
 /// The longest slice that a hand-out is lent.
-const LONGEST: usize = 4_096;
+pub const LONGEST: usize = 4_096;
+
+/// A count for each exponent from 0 to 20.
+type Counts = [u128; 21];
 
 #[derive(Default)]
 pub struct Session {
@@ -17,9 +20,10 @@ pub struct Session {
     operator: Option<Vec<i64>>,
     total: usize,
     end: bool,
+    tally: Counts,
 }
 
-type Answer = Result<String, u8>;
+pub type Answer = Result<String, u8>;
 
 impl Session {
     /// The answer to a line, if it is a call of a session.
@@ -45,12 +49,10 @@ impl Session {
                 self.image(Point { a: numbers[0], b: numbers[1], c: numbers[2], d: numbers[3] })
             }
             ("shortest", []) => self.shortest(),
+            ("tally", []) => Ok(self.tally.iter().map(|count| format!(" {count}")).collect()),
             _ => return None,
         };
-        Some(match answer {
-            Ok(text) => format!("ok{text}"),
-            Err(number) => format!("refused {number}"),
-        })
+        Some(spoken(answer))
     }
 
     fn job(&self) -> Result<Job, u8> {
@@ -74,13 +76,16 @@ impl Session {
         self.end = points.len() <= self.total + space;
         let handed: Vec<Point> = points.into_iter().skip(self.total).take(space).collect();
         self.total += handed.len();
+        for v in &handed {
+            self.tally[v.exponent(job.k) as usize] += 1;
+        }
         let numbers: String = handed.iter().map(|&v| spelled(v)).collect();
         Ok(format!(" {}{}{numbers}", handed.len(), yes_or_no(self.end)))
     }
 
     fn rewind(&mut self) -> Answer {
         self.job()?;
-        (self.total, self.end) = (0, false);
+        (self.total, self.end, self.tally) = (0, false, Counts::default());
         Ok(String::new())
     }
 
@@ -100,12 +105,20 @@ impl Session {
     }
 }
 
+pub fn spoken(answer: Answer) -> String {
+    match answer {
+        Ok(text) => format!("ok{text}"),
+        Err(number) => format!("refused {number}"),
+    }
+}
+
 /// Solutions lie in this range, and membership is exact in it.
 fn within(v: Point) -> bool {
     [v.a, v.b, v.c, v.d].iter().all(|z| z.abs() < 1 << 30)
 }
 
-fn first(job: &Job, count: usize) -> Vec<Point> {
+/// The first points of a job's walk.
+pub fn first(job: &Job, count: usize) -> Vec<Point> {
     let mut found = Vec::new();
     Walk::new(job).run(|v| {
         found.push(v);
@@ -138,16 +151,16 @@ fn before(operator: &[i64], w: Point) -> Point {
     Point { a: (sum - difference) / 2, b, c: (sum + difference) / 2, d }
 }
 
-fn spelled(v: Point) -> String {
+pub fn spelled(v: Point) -> String {
     format!(" {} {} {} {}", v.a, v.b, v.c, v.d)
 }
 
-fn yes_or_no(yes: bool) -> String {
+pub fn yes_or_no(yes: bool) -> String {
     if yes { " yes" } else { " no" }.into()
 }
 
 /// The bytes of hexadecimal digits in pairs.
-fn bytes(hex: &str) -> Option<Vec<u8>> {
+pub fn bytes(hex: &str) -> Option<Vec<u8>> {
     if !hex.len().is_multiple_of(2) || !hex.bytes().all(|digit| digit.is_ascii_hexdigit()) {
         return None;
     }

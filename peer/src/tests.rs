@@ -10,6 +10,7 @@ use crate::member::{Membership, Point};
 use crate::pack;
 use crate::root2::{floor_root2, sign};
 use crate::walk::Walk;
+use crate::words;
 
 fn solutions(job: &Job) -> Vec<Point> {
     let mut found = Vec::new();
@@ -165,4 +166,15 @@ fn bench_jobs_are_accepted() {
     names.sort();
     names.dedup();
     assert_eq!(names.len(), jobs.len());
+}
+
+#[test]
+fn words() {
+    let report = words::report(6, 30, 1, None).unwrap();
+    let lines: Vec<&str> = report.lines().collect();
+    assert_eq!(lines[0], "words: 5461, matrices: 315");
+    assert!(lines[1].ends_with("158 matrices, with fewer T than m: 0"));
+    // HTH is one of the 42.
+    assert!(lines[2].ends_with("157 matrices, with m - 1 T: 42, with fewer: 0"));
+    assert!(lines[3].ends_with("with fewer T: 0"));
 }

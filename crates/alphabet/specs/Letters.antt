@@ -1,4 +1,4 @@
--- A word as bytes: which bytes are letters, and the word that they spell. The bytes of the letters are `byte` of `clifford`. Assumes nothing.
+-- A word as bytes: which bytes are letters, and the word that they spell. The bytes of the letters are `byte` of `spelling`. Assumes nothing.
 use mathlib.Core.Path.{_≡_, refl, sym, ap, ap₂, _∙_}
 use mathlib.Core.Bool.{Bool, true, false, cond, _&&_}
 use mathlib.Core.List.{List, [], _∷_}
@@ -11,7 +11,7 @@ use lib.Seq.{drop-cons}
 use borrow.Author.Tests.{eqb-true, ne-eqb}
 use Rattle.integers.specs.Booleans.{both-true}
 pub use Rattle.spelling.specs.Table.{Letter, H, S, T, W}
-pub use Rattle.clifford.specs.Written.{byte, bytes, length-bytes}
+pub use Rattle.spelling.specs.Bytes.{byte, bytes, length-bytes}
 
 -- the letter that a byte is; a byte that is none is taken for W
 unfoldable pub letterOf : ℕ → Letter

@@ -43,5 +43,5 @@ pub left-is : {o : Outcome} {r : Left} → LeftOf o r → (l : List ℤ) → lea
 left-is h l = λ i. (h .answer l i, meaning (h .session i))
 
 -- a question of an image, of an equal session and an equal point
-pub asks-image : (a : Answer) {s t : Session} {v w : Point} → s ≡ t → v ≡ w → Steps (imageOf v) [] s s a → Steps (imageOf w) [] t t a
-asks-image a e f h = ap (λ (x : Session). outcome [] x a) (sym e) ∙ h ∙ (λ i. step world (imageOf (f i)) (meaning (e i)))
+pub asks-image : (a : Answer) {s t : Session} {v w : Point} → s ≡ t → v ≡ w → Steps (imageOf v) [] s s a → outcome [] t a ≡ step world (imageOf w) (meaning t)
+asks-image a e f h = ap (λ (x : Session). outcome [] x a) (sym e) ∙ h .met ∙ (λ i. step world (imageOf (f i)) (meaning (e i)))

@@ -1,6 +1,7 @@
 // The calls without a session.
 ghost use mathlib.Core.Path.{_≡_};
 ghost use mathlib.Core.Bool.{false};
+ghost use Rattle.refusals.specs.Refusals.{outOfRange};
 ghost use Rattle.ring.specs.Sign.{signNumber};
 ghost use Rattle.ring.specs.Point.Exponent.{exponentOf, pulseCount};
 ghost use Rattle.numbers.specs.Numbers.{pointOf};
@@ -73,10 +74,10 @@ fn counted(count: usize, end: bool) -> Handed
 }
 
 fn refused() -> Handed
-    ensures { λ r. ⌜ handedAs r 0 false 4 ⌝ }
+    ensures { λ r. ⌜ handedAs r 0 false outOfRange ⌝ }
 {
     Handed {
-        number: 4,
+        number: refusals::OUT_OF_RANGE,
         ended: 0,
         count: 0,
     }

@@ -15,7 +15,7 @@ use Rattle.ranks.specs.Rest.{rest, Place, at, ended, isEnded, isNil, placeOf, e
 use Rattle.calls.specs.Session.{World, Reading, refuse, accept, Stage, part, whole}
 use Rattle.calls.specs.Session.{Call, reading, handOut, rewind, clear, plain, imageOf, shortest}
 use Rattle.calls.specs.Session.{full, space, Session, early, walking, fresh, Outcome, joined, remembered, given, found, step, answers, after}
-use Rattle.calls.specs.Rules.{isZero, verdict, Tally, Ruling, begin, join, pass, deal, findRule, rule, verdicts, tallied}
+use Rattle.calls.specs.Rules.{isZero, verdict, Known, Ruling, begin, join, pass, deal, findRule, rule, verdicts, knownAfter}
 
 take-min : (n : ℕ) (l : List ℕ) → take (min n (length l)) l ≡ take n l
 take-min zero l = rw zero-min
@@ -35,7 +35,7 @@ module _ (W : World) where
   open World W using (Parts, Job, Operator, Best, none, identity, readPart, readOperator, test, top, least)
 
   -- a session and a tally that stand at the same point of the same job
-  data Follows : Session W → Tally W → Type 0 where
+  data Follows : Session W → Known W → Type 0 where
     soon : (p : Parts) → Follows (early p) (record { job = part p; total = 0; end = false })
     along : (j : Job) (w : Place) (o : Operator) (n : ℕ) → n ≤ length (full W j) → leftAt (test j) top w ≡ drop n (full W j)
         → Follows (walking j w o) (record { job = whole j; total = n; end = isEnded w })
@@ -75,7 +75,7 @@ module _ (W : World) where
   finds O.none = refl
   finds (O.some b) = refl
 
-  agrees : (c : Call W) {s : Session W} {t : Tally W} → Follows s t → Meets (step W c s) (rule W c t)
+  agrees : (c : Call W) {s : Session W} {t : Known W} → Follows s t → Meets (step W c s) (rule W c t)
   agrees clear f = record { same = refl; next = soon none }
   agrees (reading b) (soon p) = joins p (readPart b p)
   agrees (handOut l) (soon p) = record { same = refl; next = soon p }
@@ -91,7 +91,7 @@ module _ (W : World) where
   agrees (imageOf v) (along j w o n h e) = record { same = refl; next = along j w o n h e }
   agrees shortest (along j w o n h e) = record { same = finds (least j); next = along j w o n h e }
 
-  all-agree : (cs : List (Call W)) {s : Session W} {t : Tally W} → Follows s t → map (verdict W) (answers W s cs) ≡ verdicts W t cs
+  all-agree : (cs : List (Call W)) {s : Session W} {t : Known W} → Follows s t → map (verdict W) (answers W s cs) ≡ verdicts W t cs
   all-agree [] f = refl
   all-agree (c ∷ cs) f = let a = agrees c f in ap₂ _∷_ (a .same) (all-agree cs (a .next))
 
@@ -104,14 +104,14 @@ module _ (W : World) where
   jobOf (early p) = part p
   jobOf (walking j w o) = whole j
 
-  all-follow : (cs : List (Call W)) {s : Session W} {t : Tally W} → Follows s t → Follows (after W s cs) (tallied W t cs)
+  all-follow : (cs : List (Call W)) {s : Session W} {t : Known W} → Follows s t → Follows (after W s cs) (knownAfter W t cs)
   all-follow [] f = f
   all-follow (c ∷ cs) f = all-follow cs (agrees c f .next)
 
-  same-job : {s : Session W} {t : Tally W} → Follows s t → t .job ≡ jobOf s
+  same-job : {s : Session W} {t : Known W} → Follows s t → t .job ≡ jobOf s
   same-job (soon p) = refl
   same-job (along j w o n h e) = refl
 
   -- Reading: an accepted scale, selection or region joins the job
-  pub whole-job : (cs : List (Call W)) → tallied W (begin W) cs .job ≡ jobOf (after W (fresh W) cs)
+  pub whole-job : (cs : List (Call W)) → knownAfter W (begin W) cs .job ≡ jobOf (after W (fresh W) cs)
   whole-job cs = same-job (all-follow cs (soon none))

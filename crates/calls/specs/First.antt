@@ -22,7 +22,7 @@ use Rattle.calls.specs.Since.{Exchange, exchanges, restarts, sinceAfter,
 module _ (W : World) where
   open World W using (Parts, Job, Operator, Best, none, identity, readPart, readOperator, test, top, width, coords, wide, least)
 
-  points-more : (xs : List (Exchange W)) (x : Exchange W) → points W (xs ++ (x ∷ [])) ≡ points W xs ++ written W (x .1)
+  pub points-more : (xs : List (Exchange W)) (x : Exchange W) → points W (xs ++ (x ∷ [])) ≡ points W xs ++ written W (x .1)
   points-more [] x = append-nil (written W (x .1))
   points-more (y ∷ xs) x = rw (points-more xs x, append-assoc)
 

@@ -58,7 +58,7 @@ module _ (W : World) where
     both-early : (p : Parts) → SameButOperator (early p) (early p)
     both-walking : (j : Job) (w : Place) (o o′ : Operator) → SameButOperator (walking j w o) (walking j w o′)
 
-  same : (s : Session W) → SameButOperator s s
+  pub same : (s : Session W) → SameButOperator s s
   same (early p) = both-early p
   same (walking j w o) = both-walking j w o o
 
@@ -74,7 +74,7 @@ module _ (W : World) where
   remembered-answer j w o o′ (refuse r) = refl
   remembered-answer j w o o′ (accept n q) = refl
 
-  step-both : (c : Call W) {s t : Session W} → SameButOperator s t → SameButOperator ((step W c s) .1) ((step W c t) .1)
+  pub step-both : (c : Call W) {s t : Session W} → SameButOperator s t → SameButOperator ((step W c s) .1) ((step W c t) .1)
   step-both clear d = same (fresh W)
   step-both (reading b) (both-early p) = same ((joined W p (readPart b p)) .1)
   step-both (handOut l) (both-early p) = both-early p
@@ -90,7 +90,7 @@ module _ (W : World) where
   step-both (imageOf v) (both-walking j w o o′) = both-walking j w o o′
   step-both shortest (both-walking j w o o′) = both-walking j w o o′
 
-  step-operator : (c : Call W) → readsOperator c ≡ true → {s t : Session W} → SameButOperator s t → SameButOperator ((step W c s) .1) t
+  pub step-operator : (c : Call W) → readsOperator c ≡ true → {s t : Session W} → SameButOperator s t → SameButOperator ((step W c s) .1) t
   step-operator (reading b) h (both-early p) = rw (turn-part b p h .1) (both-early p)
   step-operator (reading b) h (both-walking j w o o′) = remembered-one j w o o′ (readOperator b)
   step-operator (handOut l) h d = absurd (false≢true h)
@@ -104,7 +104,7 @@ module _ (W : World) where
   pub operator-only : (c : Call W) → readsOperator c ≡ true → (s : Session W) → SameButOperator ((step W c s) .1) s
   operator-only c h s = step-operator c h (same s)
 
-  step-answer : (c : Call W) → isIndependent c ≡ true → {s t : Session W} → SameButOperator s t → (step W c s) .0 ≡ (step W c t) .0
+  pub step-answer : (c : Call W) → isIndependent c ≡ true → {s t : Session W} → SameButOperator s t → (step W c s) .0 ≡ (step W c t) .0
   step-answer (reading b) h (both-early p) = refl
   step-answer (reading b) h (both-walking j w o o′) = remembered-answer j w o o′ (readOperator b)
   step-answer (handOut l) h (both-early p) = refl

@@ -7,6 +7,7 @@ use mathlib.Core.Option as O
 use Prim.Native.Nat.{ℕ, zero, suc, _+_, _-_, min}
 use lib.IntN.{ℤ}
 use lib.ListN.{length, take, drop}
+use Rattle.refusals.specs.Refusals.{noJob, afterEnd, noPattern}
 use Rattle.ranks.specs.Handed.{put}
 use Rattle.calls.specs.Session.{World, Reading, refuse, accept, Stage, part, whole}
 use Rattle.calls.specs.Session.{Call, reading, handOut, rewind, clear, plain, imageOf, shortest, Answer, refused, taken, handed, done, says, best, full, space}
@@ -33,25 +34,25 @@ module _ (W : World) where
   verdict (says b) = passed
   verdict (best b) = passed
 
-  pub record Tally : Type 0 where
+  pub record Known : Type 0 where
     pub job : Stage Parts Job
     pub total : ℕ
     pub end : Bool
 
   abbrev pub Ruling : Type 0
-  Ruling = Verdict × Tally
+  Ruling = Verdict × Known
 
   -- Start: no record, total 0, end no
-  abbrev pub begin : Tally
+  abbrev pub begin : Known
   begin = record { job = part none; total = 0; end = false }
 
   -- Reading: an accepted scale, selection or region joins the job
-  abbrev pub join : Tally → Reading (Stage Parts Job) → Ruling
+  abbrev pub join : Known → Reading (Stage Parts Job) → Ruling
   join t (refuse r) = (refusal r, t)
   join t (accept n j) = (passed, record { job = j; total = t .total; end = t .end })
 
   -- an accepted operator changes nothing here
-  abbrev pub pass : Tally → Reading Operator → Ruling
+  abbrev pub pass : Known → Reading Operator → Ruling
   pass t (refuse r) = (refusal r, t)
   pass t (accept n o) = (passed, t)
 
@@ -69,43 +70,43 @@ module _ (W : World) where
 
   -- Hand-out: refused 10 while end is yes, and nothing changes; else the count is the lesser of the space and what is left
   abbrev pub handRule : Job → List ℤ → ℕ → Bool → Ruling
-  handRule j l total true = (refusal 10, record { job = whole j; total = total; end = true })
+  handRule j l total true = (refusal afterEnd, record { job = whole j; total = total; end = true })
   handRule j l total false = deal j total l (min (space W l) (left j total))
 
   -- Shortest: refused 14 where there is none
   abbrev pub findRule : Option Best → Verdict
-  findRule O.none = refusal 14
+  findRule O.none = refusal noPattern
   findRule (O.some b) = passed
 
-  abbrev pub ruleAt : Call W → Stage Parts Job → Tally → Ruling
+  abbrev pub ruleAt : Call W → Stage Parts Job → Known → Ruling
   -- Clearing: as at the start
   ruleAt clear j t = (passed, begin)
   -- Reading: refused where one of the refusals 1 to 8 holds, and then nothing changes; else accepted
   ruleAt (reading b) (part p) t = join t (readPart b p)
   ruleAt (reading b) (whole j) t = pass t (readOperator b)
   -- Hand-out: refused 9 until scale, A and B are there
-  ruleAt (handOut l) (part p) t = (refusal 9, t)
+  ruleAt (handOut l) (part p) t = (refusal noJob, t)
   ruleAt (handOut l) (whole j) t = handRule j l (t .total) (t .end)
   -- Rewind: refused 9 until then, and nothing changes; else total 0, end no
-  ruleAt rewind (part p) t = (refusal 9, t)
+  ruleAt rewind (part p) t = (refusal noJob, t)
   ruleAt rewind (whole j) t = (passed, record { job = whole j; total = 0; end = false })
   -- Questions: refused 9 until then; either way nothing changes
-  ruleAt plain (part p) t = (refusal 9, t)
+  ruleAt plain (part p) t = (refusal noJob, t)
   ruleAt plain (whole j) t = (passed, t)
-  ruleAt (imageOf v) (part p) t = (refusal 9, t)
+  ruleAt (imageOf v) (part p) t = (refusal noJob, t)
   ruleAt (imageOf v) (whole j) t = (passed, t)
   -- Shortest: refused 9 until then; either way nothing changes
-  ruleAt shortest (part p) t = (refusal 9, t)
+  ruleAt shortest (part p) t = (refusal noJob, t)
   ruleAt shortest (whole j) t = (findRule (least j), t)
 
-  abbrev pub rule : Call W → Tally → Ruling
+  abbrev pub rule : Call W → Known → Ruling
   rule c t = ruleAt c (t .job) t
 
-  abbrev pub verdicts : Tally → List (Call W) → List Verdict
+  abbrev pub verdicts : Known → List (Call W) → List Verdict
   verdicts t [] = []
   verdicts t (c ∷ cs) = (rule c t) .0 ∷ verdicts ((rule c t) .1) cs
 
   -- what the rules know after a list of calls
-  abbrev pub tallied : Tally → List (Call W) → Tally
-  tallied t [] = t
-  tallied t (c ∷ cs) = tallied ((rule c t) .1) cs
+  abbrev pub knownAfter : Known → List (Call W) → Known
+  knownAfter t [] = t
+  knownAfter t (c ∷ cs) = knownAfter ((rule c t) .1) cs

@@ -9,6 +9,7 @@ use Prim.Native.Nat.{ℕ, _/_}
 use lib.Dec.{eqb}
 use lib.IntN.{ℤ}
 use lib.ListN.{length, take, drop}
+use Rattle.refusals.specs.Refusals.{noJob, afterEnd, noPattern}
 use Rattle.ranks.specs.Handed.{put}
 use Rattle.ranks.specs.Rest.{rest, Place, at, ended, isNil, placeOf}
 
@@ -111,19 +112,19 @@ module _ (W : World) where
   )
 
   abbrev pub found : Option Best → Answer
-  found O.none = refused 14
+  found O.none = refused noPattern
   found (O.some b) = best b
 
   abbrev pub step : Call → Session → Outcome
   step clear s = (done, fresh)
   step (reading b) (early p) = joined p (readPart b p)
-  step (handOut l) (early p) = (refused 9, early p)
-  step rewind (early p) = (refused 9, early p)
-  step plain (early p) = (refused 9, early p)
-  step (imageOf v) (early p) = (refused 9, early p)
-  step shortest (early p) = (refused 9, early p)
+  step (handOut l) (early p) = (refused noJob, early p)
+  step rewind (early p) = (refused noJob, early p)
+  step plain (early p) = (refused noJob, early p)
+  step (imageOf v) (early p) = (refused noJob, early p)
+  step shortest (early p) = (refused noJob, early p)
   step (reading b) (walking j w o) = remembered j w o (readOperator b)
-  step (handOut l) (walking j ended o) = (refused 10, walking j ended o)
+  step (handOut l) (walking j ended o) = (refused afterEnd, walking j ended o)
   step (handOut l) (walking j (at p) o) = given j o l (rest (test j) top p)
   step rewind (walking j w o) = (done, walking j (at 0) o)
   step plain (walking j w o) = (says (not (isNil (full j))), walking j w o)

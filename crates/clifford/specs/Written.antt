@@ -6,30 +6,13 @@ use native.Mathlib.Omega.{arith}
 use lib.ListN.{length, take, length-append}
 use Rattle.clifford.specs.declared.letters.Word.{Word}
 use Rattle.spelling.specs.declared.State.{State}
-use Rattle.spelling.specs.Table.{Letter, H, S, T, W, letter, unpack, tail}
+use Rattle.spelling.specs.Table.{Letter, letter, unpack, tail}
+pub use Rattle.spelling.specs.Bytes.{byte, bytes, bytes-++, length-bytes}
 use Rattle.spelling.specs.Word.{body}
 use Rattle.spelling.specs.Length.{body-length}
 
 abbrev pub written : Word → List ℕ
 written w = take (w .len) (w .letters)
-
-abbrev pub byte : Letter → ℕ
-byte H = 72
-byte S = 83
-byte T = 84
-byte W = 87
-
-abbrev pub bytes : List Letter → List ℕ
-bytes [] = []
-bytes (x ∷ w) = byte x ∷ bytes w
-
-pub bytes-++ : (v w : List Letter) → bytes (v ++ w) ≡ bytes v ++ bytes w
-bytes-++ [] w = refl
-bytes-++ (x ∷ v) w = ap (λ t. byte x ∷ t) (bytes-++ v w)
-
-pub length-bytes : (w : List Letter) → length (bytes w) ≡ length w
-length-bytes [] = refl
-length-bytes (x ∷ w) = ap suc (length-bytes w)
 
 unpack-++ : (n c : ℕ) (w : List Letter) → unpack n c w ≡ unpack n c [] ++ w
 unpack-++ zero c w = refl

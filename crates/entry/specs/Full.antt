@@ -61,7 +61,7 @@ module _ (k : ℕ) (ok : k ≤ topScale) (v : Point) where
   unfolding left
   left-rising p = rest-rising (λ r. completes k v (pointOf r)) (top span) (startOf p)
 
-  -- "outside the disk the list is empty": nothing is listed just where nothing solves, and so where a coordinate of v is above 2^⌈k/2⌉
+  -- nothing is listed just where nothing solves, and so where a coordinate of v is above 2^⌈k/2⌉ (`Disk`: where |u| or |u•| is above 1)
   pub full-empty : (full k v ≡ []) ↔ ((w : Point) → completes k v w ≡ false)
   unfolding full
   full-empty = all-empty (completes k v) solution-fits

@@ -5,6 +5,7 @@ use mathlib.Core.List.{List, [], _++_}
 use Prim.Native.Nat.{ℕ}
 use lib.Dec.{leb, ltb}
 use lib.ListN.{length, drop}
+use Rattle.refusals.specs.Refusals.{outOfRange, notUnitary, noRoom}
 use Rattle.ring.specs.declared.Point.{Point}
 use Rattle.equation.specs.Equation.{completes}
 use Rattle.ranges.specs.Ranges.{topScale}
@@ -20,9 +21,9 @@ use Rattle.gate_words.specs.declared.Part.{Part}
 
 -- the number of each refusal (SPEC, "Gate words"): 4 for k above the top, then 12 if the equation of "Other entry" fails, then 13 if a word is longer than its slice
 abbrev pub numberOf : Refusal → ℕ
-numberOf OutOfRange = 4
-numberOf NotUnitary = 12
-numberOf NoRoom = 13
+numberOf OutOfRange = outOfRange
+numberOf NotUnitary = notUnitary
+numberOf NoRoom = noRoom
 
 -- of an answer: 0 where there are words
 abbrev pub number : Answer → ℕ

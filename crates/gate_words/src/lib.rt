@@ -36,9 +36,9 @@ impl Refusal {
         ensures { λ r. ⌜ r ≡ numberOf self ⌝ }
     {
         match self {
-            Refusal::OutOfRange => 4,
-            Refusal::NotUnitary => 12,
-            Refusal::NoRoom => 13,
+            Refusal::OutOfRange => refusals::OUT_OF_RANGE,
+            Refusal::NotUnitary => refusals::NOT_UNITARY,
+            Refusal::NoRoom => refusals::NO_ROOM,
         }
     }
 }

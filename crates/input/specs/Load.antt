@@ -4,6 +4,7 @@ use mathlib.Core.List.{List, [], _∷_}
 use Prim.Native.Nat.{ℕ, zero, suc, _+_}
 use lib.Dec.{ltb}
 use lib.ListN.{length, drop}
+use Rattle.refusals.specs.Refusals.{noJob}
 use Rattle.kinds.specs.Kinds.{number}
 use Rattle.calls.specs.Session.{reading, taken, handed, done, says, best, early, walking, step}
 use Rattle.calls.specs.Session as Model
@@ -25,7 +26,7 @@ loadedOf I.TooLong = tooLong
 
 -- at the input's end: refused 9 where scale, A and B are not all there
 abbrev pub finished : Model.Session world → ℕ → Loaded
-finished (early p) at = refused 9 at
+finished (early p) at = refused noJob at
 finished (walking j w o) at = ready (walking j w o)
 
 -- a reading's outcome: refused at its place, or on with what follows the bytes taken; a reading answers nothing else

@@ -5,6 +5,7 @@ use Prim.Native.Nat.{ℕ}
 use native.Mathlib.Omega.{arith}
 use lib.Dec.{eqb}
 use borrow.Author.Tests.{ne-eqb}
+use Rattle.refusals.specs.Refusals.{noKind, unknownKind, short, outOfRange, notPositive, oddParity, notSpecial, outOfTurn, noJob, afterEnd, noDirection, noPattern}
 use Rattle.kinds.specs.declared.Kind.{Kind}
 use Rattle.kinds.specs.declared.Kind.the-variants as K
 use Rattle.kinds.specs.declared.Turn.{Turn}
@@ -16,18 +17,18 @@ use Rattle.kinds.specs.declared.Admission.the-variants as A
 
 -- the number of each refusal (SPEC, "Refusals")
 abbrev pub number : Refusal → ℕ
-number NoKind = 1
-number UnknownKind = 2
-number Short = 3
-number OutOfRange = 4
-number NotPositive = 5
-number OddParity = 6
-number NotSpecial = 7
-number OutOfTurn = 8
-number NoJob = 9
-number Ended = 10
-number NoDirection = 11
-number NoPattern = 14
+number NoKind = noKind
+number UnknownKind = unknownKind
+number Short = short
+number OutOfRange = outOfRange
+number NotPositive = notPositive
+number OddParity = oddParity
+number NotSpecial = notSpecial
+number OutOfTurn = outOfTurn
+number NoJob = noJob
+number Ended = afterEnd
+number NoDirection = noDirection
+number NoPattern = noPattern
 
 -- ---- kinds, with the length of the body
 unfoldable pub kindOf : ℕ → Kind

@@ -43,18 +43,18 @@ impl Refusal {
         ensures { λ r. ⌜ r ≡ numberOf self ⌝ }
     {
         match self {
-            Refusal::NoKind => 1,
-            Refusal::UnknownKind => 2,
-            Refusal::Short => 3,
-            Refusal::OutOfRange => 4,
-            Refusal::NotPositive => 5,
-            Refusal::OddParity => 6,
-            Refusal::NotSpecial => 7,
-            Refusal::OutOfTurn => 8,
-            Refusal::NoJob => 9,
-            Refusal::Ended => 10,
-            Refusal::NoDirection => 11,
-            Refusal::NoPattern => 14,
+            Refusal::NoKind => refusals::NO_KIND,
+            Refusal::UnknownKind => refusals::UNKNOWN_KIND,
+            Refusal::Short => refusals::SHORT,
+            Refusal::OutOfRange => refusals::OUT_OF_RANGE,
+            Refusal::NotPositive => refusals::NOT_POSITIVE,
+            Refusal::OddParity => refusals::ODD_PARITY,
+            Refusal::NotSpecial => refusals::NOT_SPECIAL,
+            Refusal::OutOfTurn => refusals::OUT_OF_TURN,
+            Refusal::NoJob => refusals::NO_JOB,
+            Refusal::Ended => refusals::AFTER_END,
+            Refusal::NoDirection => refusals::NO_DIRECTION,
+            Refusal::NoPattern => refusals::NO_PATTERN,
         }
     }
 }

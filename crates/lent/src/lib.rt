@@ -19,7 +19,7 @@ pub fn read(s: &mut Tallied, bytes: &[u8]) -> Answer
     r.answer
 }
 
-// A hand-out: as many of the next solutions as the slice has space for.
+// A hand-out: as many of the next listed points as the slice has space for.
 pub fn hand_out(s: &mut Tallied, out: &mut [i32]) -> Answer
     ensures { λ r. ⌜ Deals (now (s .entry)) (now (out .entry)) (now (out .exit)) (now (s .exit)) r ⌝ }
 {
@@ -46,14 +46,14 @@ pub fn clear(s: &mut Tallied) -> Answer
     r.answer
 }
 
-// Whether the job has a solution.
+// Whether the job lists a point.
 pub fn has_solution(s: &Tallied) -> Answer
     ensures { λ r. ⌜ Steps plain [] (now (s .entry) .session) (now (s .entry) .session) r ⌝ }
 {
     tallied::has_solution(*s)
 }
 
-// Whether w is what the remembered operator makes of a solution.
+// Whether w is what the remembered operator makes of a listed point.
 pub fn has_image(s: &Tallied, w: Point) -> Answer
     ensures { λ r. ⌜ Steps (imageOf w) [] (now (s .entry) .session) (now (s .entry) .session) r ⌝ }
 {

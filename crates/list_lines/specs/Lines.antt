@@ -1,8 +1,7 @@
 -- The lines that the list program prints: SPEC, "List program".
 use mathlib.Core.List.{List, [], _∷_, _++_}
-use Prim.Native.Nat.{ℕ, _+_, _*_}
-use lib.IntN.{ℤ, pos}
-use lib.ListN.{getD}
+use Prim.Native.Nat.{ℕ}
+use lib.IntN.{ℤ}
 use Rattle.ring.specs.declared.Point.{Point}
 use Rattle.ring.specs.Point.Exponent.{exponentOf, pulseCount}
 use Rattle.text.specs.Decimal.{decimal, signedDecimal}
@@ -18,10 +17,6 @@ countText n mark = decimal n ++ (mark ∷ [])
 unfoldable pub pointLine : ℕ → Point → List ℕ
 pointLine k v =
     coordinateText (v .a) ++ coordinateText (v .b) ++ coordinateText (v .c) ++ coordinateText (v .d) ++ countText (exponentOf k v) 32 ++ countText (pulseCount (exponentOf k v)) 10
-
--- the point number i of a list with four numbers for each
-unfoldable pub pointAt : List ℤ → ℕ → Point
-pointAt l i = record { a = getD l (4 * i) (pos 0); b = getD l (4 * i + 1) (pos 0); c = getD l (4 * i + 2) (pos 0); d = getD l (4 * i + 3) (pos 0) }
 
 -- the lines of points in four numbers each
 unfoldable pub linesOf : ℕ → List ℤ → List ℕ

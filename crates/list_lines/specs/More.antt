@@ -8,21 +8,8 @@ use lib.IntN.{ℤ}
 use lib.ListN.{length, take}
 use Rattle.ring.specs.declared.Point.{Point}
 use Rattle.text.specs.Append.{Appended, append-more}
-use Rattle.list_lines.specs.Lines.{pointLine, pointAt, linesOf}
-
--- a point later in the list, the first one left out
-next-point : (a b c d : ℤ) (l : List ℤ) (i : ℕ) → pointAt (a ∷ b ∷ c ∷ d ∷ l) (suc i) ≡ pointAt l i
-unfolding pointAt
-next-point a b c d l i =
-    let e : 4 * suc i ≡ suc (suc (suc (suc (4 * i)))) = omega arith in
-    let f : suc (suc (suc (suc (4 * i)))) + 1 ≡ suc (suc (suc (suc (4 * i + 1)))) = omega arith in
-    let g : suc (suc (suc (suc (4 * i)))) + 2 ≡ suc (suc (suc (suc (4 * i + 2)))) = omega arith in
-    let h : suc (suc (suc (suc (4 * i)))) + 3 ≡ suc (suc (suc (suc (4 * i + 3)))) = omega arith in
-    rw (e, f, g, h) refl
-
-first-point : (a b c d : ℤ) (l : List ℤ) → pointAt (a ∷ b ∷ c ∷ d ∷ l) 0 ≡ record { a = a; b = b; c = c; d = d }
-unfolding pointAt
-first-point a b c d l = refl
+use Rattle.points.specs.Slices.{pointAt, next-point, first-point}
+use Rattle.list_lines.specs.Lines.{pointLine, linesOf}
 
 pub lines-more : (k : ℕ) (l : List ℤ) (i : ℕ) → 4 * i + 4 ≤ length l → linesOf k (take (4 * suc i) l) ≡ linesOf k (take (4 * i) l) ++ pointLine k (pointAt l i)
 unfolding linesOf

@@ -8,7 +8,7 @@ ghost use Rattle.text.specs.Decimal.{decimal};
 ghost use Rattle.words.specs.Meaning.{sizeOf};
 ghost use Rattle.text.specs.Written.{written, after};
 ghost use Rattle.kinds.specs.Kinds.{number};
-ghost use Rattle.list_lines.specs.Lines.{coordinateText, countText, pointLine, pointAt, linesOf, endLine, refusalLine, tooLongLine};
+ghost use Rattle.list_lines.specs.Lines.{coordinateText, countText, pointLine, linesOf, endLine, refusalLine, tooLongLine};
 use kinds::Refusal;
 use ring::Point;
 use words::Size;
@@ -21,23 +21,10 @@ pub fn put_points(out: &mut [u8], points: &[i32], n: usize, k: u8) -> usize
     let mut at = 0;
     let mut i = 0;
     while i < n {
-        at = put_point(out, at, point_at(points, i), k);
+        at = put_point(out, at, points::point_at(points, i), k);
         i += 1;
     }
     at
-}
-
-// The point number i of a hand-out.
-fn point_at(points: &[i32], i: usize) -> Point
-    requires { ⌜ 4 * i + 4 ≤ length (now points) ⌝ }
-    ensures { λ r. ⌜ r ≡ pointAt (now (points .entry)) i ⌝ }
-{
-    Point {
-        a: points[4 * i],
-        b: points[4 * i + 1],
-        c: points[4 * i + 2],
-        d: points[4 * i + 3],
-    }
 }
 
 // `a b c d e m`.

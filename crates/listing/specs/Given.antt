@@ -16,7 +16,8 @@ use Rattle.calls.specs.Session.{handOut, refused, taken, handed, done, says, be
 use Rattle.calls.specs.Session as Model
 use Rattle.stages.specs.World.{world}
 use Rattle.list_lines.specs.Lines.{linesOf}
-use Rattle.listing.specs.Page.{Paging, pageOf, scaleOf}
+use Rattle.stages.specs.Session.{scaleOf}
+use Rattle.listing.specs.Page.{Paging, pageOf}
 
 abbrev pub isHanded : Model.Answer world → Bool
 isHanded (refused r) = false

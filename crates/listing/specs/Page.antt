@@ -48,7 +48,3 @@ pub record Paged (p : Paging) (r : Page) (old new : List ℕ) : Type 0 where
   pub count : r .count ≡ p .count
   pub more : r .more ≡ p .more
   pub text : Appended old 0 (p .text) new (r .length)
-
-abbrev pub scaleOf : Model.Session world → ℕ
-scaleOf (early p) = 0
-scaleOf (walking j w o) = j .k

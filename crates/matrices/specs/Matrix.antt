@@ -53,7 +53,7 @@ crossed x y x′ y′ = record {
 unfoldable pub determinantOf : Matrix → Entry
 determinantOf m = crossed (at m 0 0) (at m 1 1) (at m 0 1) (at m 1 0)
 
--- ---- any matrices: entries up to 2^30 in size, as those of every operator are, have products within 64 bits; a larger one has the product and the determinant 0
+-- ---- any matrices: entries up to 2^30 in size, as those of every operator are, have products within 64 bits; a larger one has the product and the determinant 0, and a flag that says so
 abbrev pub entryWithin : Entry → Bool
 entryWithin e = leb (natAbs (e .p)) (2 ^ 30) && leb (natAbs (e .q)) (2 ^ 30)
 

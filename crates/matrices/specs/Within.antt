@@ -1,6 +1,7 @@
 -- Matrices with numbers up to 2^30 in size: those of every operator are such, and so their product and determinant are exact.
 use mathlib.Core.Path.{_≡_, refl}
 use mathlib.Core.Bool.{true, _&&_}
+use mathlib.Core.List.{[], _∷_}
 use Prim.Native.Nat.{zero, suc, _^_}
 use native.Mathlib.Omega.{arith}
 use lib.Dec.{leb}
@@ -9,9 +10,15 @@ use borrow.Author.Tests.{leb-true, le-leb}
 use Rattle.integers.specs.Booleans.{both-true}
 use Rattle.operator.specs.declared.Operator.{Operator}
 use Rattle.matrices.specs.declared.Entry.{Entry}
+use Rattle.matrices.specs.declared.CheckedProduct.{CheckedProduct}
 use Rattle.matrices.specs.Matrix.{Matrix, at, matrixOf, productOf, determinantOf, entryWithin, isWithin, productWithin, determinantWithin}
 use Rattle.operator.specs.Bounded.{Fits16}
 use Rattle.matrices.specs.Bounded.{BoundedEntry, BoundedMatrix, matrix-bounded}
+
+-- an answer: whether the rows are the product, and the rows
+pub record Multiplies (m n : Matrix) (r : CheckedProduct) : Type 0 where
+  pub exact : r .exact ≡ isWithin m && isWithin n
+  pub rows : r .first ∷ r .second ∷ [] ≡ productWithin m n
 
 entry-bounded : (e : Entry) → entryWithin e ≡ true → BoundedEntry e
 entry-bounded e h =

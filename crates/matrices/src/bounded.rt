@@ -1,6 +1,9 @@
 // Product and determinant of any matrices: exact for numbers up to 2^30 in size, as those of every operator are.
 ghost use mathlib.Core.Path.{_≡_};
-ghost use Rattle.matrices.specs.Matrix.{entryWithin, isWithin, productWithin, determinantWithin};
+ghost use Rattle.matrices.specs.Matrix.{entryWithin, isWithin, determinantWithin};
+ghost use Rattle.matrices.specs.Within.{Multiplies};
+use crate::CheckedDeterminant;
+use crate::CheckedProduct;
 use crate::Entry;
 use crate::matrix;
 
@@ -9,24 +12,42 @@ const LIMIT: u64 = 1073741824;
 
 const ZERO: Entry = Entry { p: 0, q: 0 };
 
-// The product of two matrices; 0 where a number is larger.
-pub fn product(m: [[Entry; 2]; 2], n: [[Entry; 2]; 2]) -> [[Entry; 2]; 2]
-    ensures { λ r. ⌜ r ≡ productWithin m n ⌝ }
+// The product of two matrices; not exact, and 0, where a number is larger.
+pub fn product(m: [[Entry; 2]; 2], n: [[Entry; 2]; 2]) -> CheckedProduct
+    ensures { λ r. ⌜ Multiplies m n r ⌝ }
 {
     if is_within(m) & is_within(n) {
-        return matrix::product(m, n);
+        let p = matrix::product(m, n);
+        let first = p[0];
+        let second = p[1];
+        return CheckedProduct {
+            exact: true,
+            first: first,
+            second: second,
+        };
     }
-    [[ZERO, ZERO], [ZERO, ZERO]]
+    CheckedProduct {
+        exact: false,
+        first: [ZERO, ZERO],
+        second: [ZERO, ZERO],
+    }
 }
 
-// The determinant of a matrix; 0 where a number is larger.
-pub fn determinant(m: [[Entry; 2]; 2]) -> Entry
-    ensures { λ r. ⌜ r ≡ determinantWithin m ⌝ }
+// The determinant of a matrix; not exact, and 0, where a number is larger.
+pub fn determinant(m: [[Entry; 2]; 2]) -> CheckedDeterminant
+    ensures { λ r. ⌜ (r .exact ≡ isWithin m) × (r .value ≡ determinantWithin m) ⌝ }
 {
     if is_within(m) {
-        return matrix::determinant(m);
+        let d = matrix::determinant(m);
+        return CheckedDeterminant {
+            exact: true,
+            value: d,
+        };
     }
-    ZERO
+    CheckedDeterminant {
+        exact: false,
+        value: ZERO,
+    }
 }
 
 fn is_within(m: [[Entry; 2]; 2]) -> bool

@@ -15,6 +15,19 @@ pub struct Entry {
     pub q: i64,
 }
 
+// The rows of a product of any matrices, and whether they are it.
+pub struct CheckedProduct {
+    pub exact: bool,
+    pub first: [Entry; 2],
+    pub second: [Entry; 2],
+}
+
+// A determinant of any matrix, and whether it is that.
+pub struct CheckedDeterminant {
+    pub exact: bool,
+    pub value: Entry,
+}
+
 // The matrix of an operator: the Note, Lemma 3.8.
 pub fn of(g: Operator) -> [[Entry; 2]; 2]
     ensures { λ r. ⌜ r ≡ matrixOf g ⌝ }

@@ -4,7 +4,6 @@ mod records;
 
 ghost use mathlib.Core.Path.{_≡_};
 ghost use lib.ListN.{length};
-use libc::STDOUT_FILENO;
 
 fn main() {
     let mut space = buffer();
@@ -38,19 +37,22 @@ fn byte_of(x: u32) -> u8 {
     if x / 65536 % 4 == 0 { b % 8 } else { b }
 }
 
-// The n bytes from place n on, for each n.
+// The n bytes from place n on, for each n, until an output is not taken.
 fn list_all(bytes: &[u8]) {
     let mut n = 0;
     while n <= bytes.len() / 2 {
-        list_one(&bytes[n..n + n]);
+        if !list_one(&bytes[n..n + n]) {
+            return;
+        }
         n += 1;
     }
 }
 
-fn list_one(bytes: &[u8]) {
+// Whether all of it was taken.
+fn list_one(bytes: &[u8]) -> bool {
     if bytes.len() % 3 == 0 {
-        records::list(bytes);
+        records::list(bytes)
     } else {
-        printing::print_list(STDOUT_FILENO, bytes);
+        printing::print_list(bytes)
     }
 }

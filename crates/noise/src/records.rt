@@ -2,7 +2,6 @@
 ghost use mathlib.Core.Path.{_≡_};
 ghost use Prim.Native.Nat.{_+_, _<_, _≤_};
 ghost use lib.ListN.{length};
-use libc::STDOUT_FILENO;
 
 // Five jobs: unit disks; a rectangle and an ellipse at scale 1, all points; a point and a small square at scale 20, all points; a slice and the unit disk at scale 2; the unit disk and a slice at scale 3, new points by a record. Then two operators.
 const RECORDS: [u8; 234] = [
@@ -249,23 +248,24 @@ struct Job {
 }
 
 // What the list program prints for as many bytes of records as there are random ones.
-pub fn list(noise: &[u8]) {
+pub fn list(noise: &[u8]) -> bool {
     let mut space = buffer();
-    list_in(&mut space, noise);
+    list_in(&mut space, noise)
 }
 
-fn list_in(space: &mut [u8], noise: &[u8]) {
+fn list_in(space: &mut [u8], noise: &[u8]) -> bool {
     let n = noise.len();
     let h = job_for(n);
     fill(space, h);
     spoil(space, n, h, noise);
-    print(space, n);
+    print(space, n)
 }
 
-fn print(bytes: &[u8], n: usize) {
-    if n <= bytes.len() {
-        printing::print_list(STDOUT_FILENO, &bytes[..n]);
+fn print(bytes: &[u8], n: usize) -> bool {
+    if n > bytes.len() {
+        return false;
     }
+    printing::print_list(&bytes[..n])
 }
 
 fn buffer() -> [u8; 70000]

@@ -1,5 +1,5 @@
 -- What letters at an end of a word do to its matrix: S and at most one T on the right bring the determinant to 1, and W on the left takes a phase off.
-use mathlib.Core.Path.{_≡_, refl, sym, _∙_, ap, subst}
+use mathlib.Core.Path.{_≡_, refl, sym, _∙_, ap, ap₂, subst}
 use mathlib.Core.List.{List, [], _∷_, _++_}
 use Prim.Native.Nat.{ℕ, zero, suc, _+_, _*_, _/_, _%_, _≤_}
 use native.Mathlib.Omega.{arith}
@@ -7,10 +7,10 @@ use lib.IntN.{pos}
 use Rattle.integers.specs.Ring.{poly, by-ring}
 use Rattle.ring.specs.declared.Point.{Point}
 use Rattle.ring.specs.Point.{_+ω_, _*ω_, negω, numω, ω, ringω, *ω-one, *ω-assoc}
-use Rattle.spelling.specs.Points.{dagger}
+use Rattle.spelling.specs.Points.{dagger, back}
 use Rattle.spelling.specs.Table.{Letter, H, S, T, W}
 use Rattle.spelling.specs.Matrix.{Matrix, _·_, scale, one, matrix, product, Hs, √2^, ω^, Spells, made, ext, prefixed-++, scale-scale}
-use Rattle.spelling.specs.Letters.{ω-+}
+use Rattle.spelling.specs.Letters.{ω-+, turn-back, W-made}
 use Rattle.spelling.specs.Run.{ω-rest, made-rest}
 use Rattle.spelling.specs.Spelled.{goes-on}
 use Rattle.spelling.specs.Word.{Ts}
@@ -113,8 +113,17 @@ W-scales m = ext (first (m .a) (m .c)) (first (m .b) (m .d)) (second (m .a) (m .
     second : (x y : Point) → numω (pos 0) *ω x +ω ω *ω y ≡ ω *ω y
     second x y = by-ring ringω (x ∷ y ∷ ω ∷ []) (search poly depth 20) refl
 
+-- ω^n out of a determinant ω^(2n)
+pub record Evened (n : ℕ) (u t : Point) : Type 0 where
+  pub v : Point
+  pub x : Point
+  pub is : made u t (n * 2) ≡ scale (ω^ n) (made v x 0)
+
+pub no-phase : (m : Matrix) → scale (ω^ 0) m ≡ m
+no-phase m = ext (*ω-one (m .a)) (*ω-one (m .b)) (*ω-one (m .c)) (*ω-one (m .d))
+
 W-left : (n : ℕ) (w : List Letter) (k : ℕ) (m : Matrix) → Spells w k m → Closed (Ts w) k (scale (ω^ n) m)
-W-left zero w k m s = record { word = w; Ts-are = refl; spells = subst (Spells w k) (ext (sym (*ω-one (m .a))) (sym (*ω-one (m .b))) (sym (*ω-one (m .c))) (sym (*ω-one (m .d)))) s }
+W-left zero w k m s = record { word = w; Ts-are = refl; spells = subst (Spells w k) (sym (no-phase m)) s }
 W-left (suc n) w k m s =
     let c = W-left n w k m s in
     record {
@@ -131,5 +140,18 @@ unphased w k n m s =
     record {
       word = c .word;
       Ts-are = c .Ts-are;
-      spells = subst (Spells (c .word) k) (scale-scale (ω^ (7 * n)) (ω^ n) m ∙ ap (λ x. scale x m) (sym (ω-+ (7 * n) n) ∙ ω-rest (7 * n + n) 0 e) ∙ ext (*ω-one (m .a)) (*ω-one (m .b)) (*ω-one (m .c)) (*ω-one (m .d))) (c .spells);
+      spells = subst (Spells (c .word) k) (scale-scale (ω^ (7 * n)) (ω^ n) m ∙ ap (λ x. scale x m) (sym (ω-+ (7 * n) n) ∙ ω-rest (7 * n + n) 0 e) ∙ no-phase m) (c .spells);
+    }
+
+pub evened : (n : ℕ) (u t : Point) → Evened n u t
+evened zero u t = record { v = u; x = t; is = sym (no-phase (made u t 0)) }
+evened (suc n) u t =
+    let e = evened n (back u) (back t) in
+    let f : suc n * 2 ≡ suc (suc (n * 2)) = omega arith in
+    record {
+      v = e .v;
+      x = e .x;
+      is =
+          ap (made u t) f ∙ sym (ap₂ (λ u t. made u t (suc (suc (n * 2)))) (turn-back u) (turn-back t)) ∙ sym (W-made (back u) (back t) (n * 2))
+          ∙ W-scales (made (back u) (back t) (n * 2)) ∙ ap (scale ω) (e .is) ∙ scale-scale ω (ω^ n) (made (e .v) (e .x) 0);
     }

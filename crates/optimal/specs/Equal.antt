@@ -28,7 +28,7 @@ power-+ : (i j : ℕ) → √2^ (i + j) ≡ √2^ i *ω √2^ j
 power-+ i zero = let e : i + 0 ≡ i = omega arith in ap √2^ e ∙ unit (√2^ i)
 power-+ i (suc j) = let e : i + suc j ≡ suc (i + j) = omega arith in ap √2^ e ∙ ap (λ t. t *ω √2ω) (power-+ i j) ∙ *ω-assoc (√2^ i) (√2^ j) √2ω
 
-scale-+ : (i j : ℕ) (m : Matrix) → scale (√2^ (i + j)) m ≡ scale (√2^ i) (scale (√2^ j) m)
+pub scale-+ : (i j : ℕ) (m : Matrix) → scale (√2^ (i + j)) m ≡ scale (√2^ i) (scale (√2^ j) m)
 scale-+ i j m = ap (λ x. scale x m) (power-+ i j) ∙ sym (scale-scale (√2^ i) (√2^ j) m)
 
 -- ---- it is an equality, and words go on to the left and to the right

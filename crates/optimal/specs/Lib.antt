@@ -1,9 +1,10 @@
 -- `Fewest`: a normal form has the fewest T of all words of its product. `Handed`: so has the word that is handed back. `Unbeaten`: no word meets a job with fewer T than the shortest pattern.
--- `Equal`: words of equal product. `Unitary`: what words spell solves the equation. `Closing`: letters at the ends of a word. `Passing`: S, X and W pass through a normal form.
+-- `GateSet`: S†, T†, X, Y and Z as letters of their own. `Equal`: words of equal product. `Unitary`: what words spell solves the equation. `Closing`: letters at the ends of a word. `Passing`: S, X and W pass through a normal form.
 pub mod Equal
 pub mod Unitary
 pub mod Closing
 pub mod Passing
 pub mod Fewest
+pub mod GateSet
 pub mod Handed
 pub mod Unbeaten

@@ -20,7 +20,8 @@ use Rattle.listing.specs.Page.{pageOf, roomIn}
 use Rattle.output.specs.declared.Output.{Output}
 use Rattle.output.specs.Output.{outputFor, outputOf}
 use Rattle.output.specs.Pieces.{State, long, refusal, list, last, done, isDone, stateOf, begin, partOf, pieceOf, Printed, finished, piece, most, restOf}
-use Rattle.output.specs.Pages.{kept-same, Small, Goes, page-goes, page-less}
+use Rattle.words.specs.Wrapped.{wrapped-same}
+use Rattle.output.specs.Pages.{Small, Goes, page-goes, page-less}
 use Rattle.output.specs.Ready.{Begun, load-begun}
 
 part-goes : (n : ℕ) (s : State) → Small s → Goes s (partOf n s)
@@ -29,8 +30,8 @@ part-goes n long h = record { joined = append-nil _; small = tt }
 part-goes n (refusal r p) h = record { joined = append-nil _; small = tt }
 part-goes n (last t) h = record { joined = append-nil _; small = tt }
 part-goes n done h = record { joined = refl; small = tt }
-part-goes n (list (early p) t) h = record { joined = ap endLine (kept-same (t + 0) h); small = tt }
-part-goes n (list (walking j ended o) t) h = record { joined = ap endLine (kept-same (t + 0) h); small = tt }
+part-goes n (list (early p) t) h = record { joined = ap endLine (wrapped-same (t + 0) h); small = tt }
+part-goes n (list (walking j ended o) t) h = record { joined = ap endLine (wrapped-same (t + 0) h); small = tt }
 part-goes n (list (walking j (at p) o) t) h = page-goes j p o t (roomIn n) h (drop (roomIn n) (rest (listedAt j) (top span) p)) refl (left-place (listedAt j) (top span) (roomIn n) p)
 
 pub piece-goes : (n : ℕ) (s : State) → Small s → Goes s (pieceOf n s)

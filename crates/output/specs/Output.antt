@@ -8,7 +8,7 @@ use Rattle.calls.specs.Since.{fullOf}
 use Rattle.stages.specs.World.{world}
 use Rattle.input.specs.Load.{Loaded, ready, refused, tooLong, loadOf}
 use Rattle.list_lines.specs.Lines.{linesOf, endLine, refusalLine, tooLongLine}
-use Rattle.listing.specs.Page.{scaleOf}
+use Rattle.stages.specs.Session.{scaleOf}
 
 -- the points of a list of ranks, one line for each
 abbrev pub listLines : ℕ → List ℕ → List ℕ

@@ -2,8 +2,8 @@
 use mathlib.Core.Path.{_≡_, refl, sym, ap, ap₂, subst, _∙_}
 use mathlib.Core.Bool.{not, cond}
 use mathlib.Core.List.{List, [], _∷_, _++_, append-assoc, append-nil}
-use Prim.Native.Nat.{ℕ, _+_, _*_, _/_, _%_, _^_, _≤_, _<_}
-use native.Mathlib.Nat.{mod-eq-of-lt, div-lt-iff-lt-mul, div-add-mod', add-assoc}
+use Prim.Native.Nat.{ℕ, _+_, _*_, _^_, _≤_, _<_}
+use native.Mathlib.Nat.{add-assoc}
 use native.Mathlib.Omega.{arith}
 use lib.Dec.{lit≤}
 use lib.ListN.{length, take, drop, length-append, length-drop, take-append-drop}
@@ -14,18 +14,10 @@ use Rattle.region.specs.declared.Job.{Job}
 use Rattle.operator.specs.declared.Operator.{Operator}
 use Rattle.lists.specs.Walk.{listedAt}
 use Rattle.calls.specs.Session.{walking}
-use Rattle.words.specs.Meaning.{sizeOf, wrapped}
+use Rattle.words.specs.Wrapped.{wrapped-same}
 use Rattle.list_lines.specs.Lines.{linesOf, endLine}
 use Rattle.output.specs.Output.{listLines}
 use Rattle.output.specs.Pieces.{State, long, refusal, list, last, done, Part, kept, leftOf, most, restOf}
-
--- ---- a number below 2^128 is kept
-two-words : (B n : ℕ) → 0 < B → n < B * B → n / B % B * B + n % B ≡ n
-two-words B n h k = rw (mod-eq-of-lt (div-lt-iff-lt-mul h .1 k)) (div-add-mod' n B)
-
-pub kept-same : (n : ℕ) → n < 2 ^ 128 → kept n ≡ n
-unfolding sizeOf wrapped
-kept-same n h = two-words (2 ^ 64) n (lit≤ tt) h
 
 -- ---- lines of two lists
 pub lines-append : (k : ℕ) (a b : List ℕ) → listLines k (a ++ b) ≡ listLines k a ++ listLines k b
@@ -59,7 +51,7 @@ module _ (k t room : ℕ) (l : List ℕ) (h : t + length l < 2 ^ 128) where
   lengths = add-assoc t (length (take room l)) (length (drop room l)) ∙ ap (_+_ t) (sym (length-append (take room l) (drop room l)) ∙ ap length parts)
 
   counted : kept (t + count) ≡ t + count
-  counted = kept-same (t + count) (below _ (length (drop room l)) _ _ lengths h)
+  counted = wrapped-same (t + count) (below _ (length (drop room l)) _ _ lengths h)
 
   abbrev text : List ℕ
   text = listLines k (take room l)

@@ -13,12 +13,12 @@ use Rattle.lists.specs.Walk.{listedAt}
 use Rattle.calls.specs.Session.{early, walking}
 use Rattle.calls.specs.Session as Model
 use Rattle.stages.specs.World.{world}
-use Rattle.stages.specs.Session.{meaning}
+use Rattle.stages.specs.Session.{meaning, scaleOf}
 use Rattle.text.specs.Append.{Appended}
 use Rattle.words.specs.Meaning.{sizeOf, wrapped}
 use Rattle.input.specs.Load.{Loaded, ready, refused, tooLong}
 use Rattle.list_lines.specs.Lines.{endLine, refusalLine, tooLongLine}
-use Rattle.listing.specs.Page.{pageOf, roomIn, scaleOf}
+use Rattle.listing.specs.Page.{pageOf, roomIn}
 use Rattle.output.specs.declared.Output.{Output}
 use Rattle.output.specs.declared.Output.the-variants as O
 use Rattle.output.specs.declared.Piece.{Piece}

@@ -2,19 +2,25 @@
 ghost use mathlib.Core.Path.{_≡_};
 ghost use lib.ListN.{length};
 use libc::STDIN_FILENO;
-use libc::STDOUT_FILENO;
 
 fn main() {
     let mut input = printing::input_buffer();
-    let n = io::read_full(STDIN_FILENO, &mut input);
-    let mut out = output_buffer();
-    let k = pattern_text::put(&mut out, &input[..n]);
-    write(&out, k);
+    let got = streams::read(STDIN_FILENO, b"standard input", &mut input);
+    let n = got.at;
+    if !got.failed {
+        answer(&input[..n]);
+    }
 }
 
-fn write(out: &[u8], n: usize) {
+fn answer(input: &[u8]) {
+    let mut out = output_buffer();
+    let k = pattern_text::put(&mut out, input);
+    print(&out, k);
+}
+
+fn print(out: &[u8], n: usize) {
     if n <= out.len() {
-        io::write_all(STDOUT_FILENO, &out[..n]);
+        streams::print(&out[..n]);
     }
 }
 

@@ -65,7 +65,7 @@ textsFor n (refused r p) = refusalLine r p ∷ []
 textsFor n tooLong = tooLongLine ∷ []
 
 pub shortest-texts : (n : ℕ) (s : Session) (a : Answer) → Steps shortest [] s s a → answerTexts n (answerOf [] a) ≡ shortestTexts n (meaning s)
-shortest-texts n s a h = ap (λ (o : Model.Outcome world). answerTexts n (o .0)) h
+shortest-texts n s a h = ap (λ (o : Model.Outcome world). answerTexts n (o .0)) (h .met)
 
 pub loaded-texts : (n : ℕ) (i : Input) (l : Loaded) → loadedOf i ≡ l → textsFor n (loadedOf i) ≡ textsFor n l
 loaded-texts n i l h = ap (textsFor n) h

@@ -1,8 +1,8 @@
 -- The points that pass a test, as a list of their ranks: it holds them all, in point order, each once, and no other list does.
 use mathlib.Core.Path.{_≡_, refl, sym, ap, subst, _∙_}
 use mathlib.Core.Bool.{Bool, true, false, false≢true}
-use mathlib.Core.List.{List, [], _∷_, List·Memᴰ, List·Memᴰ·head, List·Memᴰ·not-nil}
-use mathlib.Core.Logic.{_↔_}
+use mathlib.Core.List.{List, [], _∷_, map, List·Memᴰ, List·Memᴰ·head, List·Memᴰ·tail, List·Memᴰ·not-nil, List·Memᴰ·cases-cons}
+use mathlib.Core.Logic.{_↔_, ⊎-elim}
 use Prim.Native.Nat.{ℕ, zero-le, _≤_, _<_}
 use native.Mathlib.Omega.{arith}
 use Rattle.ring.specs.declared.Point.{Point}
@@ -17,6 +17,20 @@ pub record Listed (l : List ℕ) (v : Point) : Type 0 where
   pub at : ℕ
   pub held : List·Memᴰ at l
   pub point : pointOf at ≡ v
+
+-- the points of the ranks are just those that are in it
+pub listed-there : (l : List ℕ) (v : Point) → List·Memᴰ v (map pointOf l) → Listed l v
+listed-there [] v m = absurd (List·Memᴰ·not-nil m)
+listed-there (r ∷ l) v m =
+    ⊎-elim (λ e. record { at = r; held = List·Memᴰ·head refl; point = sym e }) (λ k. let h = listed-there l v k in record { at = h .at; held = List·Memᴰ·tail (h .held); point = h .point })
+    (List·Memᴰ·cases-cons m)
+
+held-there : (l : List ℕ) (v : Point) (r : ℕ) → List·Memᴰ r l → pointOf r ≡ v → List·Memᴰ v (map pointOf l)
+held-there [] v r m e = absurd (List·Memᴰ·not-nil m)
+held-there (q ∷ l) v r m e = ⊎-elim (λ f. List·Memᴰ·head (sym e ∙ ap pointOf f)) (λ k. List·Memᴰ·tail (held-there l v r k e)) (List·Memᴰ·cases-cons m)
+
+pub there-listed : (l : List ℕ) (v : Point) → Listed l v → List·Memᴰ v (map pointOf l)
+there-listed l v h = held-there l v (h .at) (h .held) (h .point)
 
 -- the points from a rank on that pass a test
 abbrev pub passing : (Point → Bool) → ℕ → List ℕ

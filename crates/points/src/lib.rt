@@ -1,10 +1,14 @@
-// Digits of a point's rank: a coordinate + 2^31; and a point as four numbers of a slice.
+// Digits of a point's rank: a coordinate + 2^31; point order; and a point as four numbers of a slice.
 ghost use mathlib.Core.Path.{_≡_};
-ghost use Prim.Native.Nat.{_+_, _≤_, _<_};
+ghost use Prim.Native.Nat.{_+_, _*_, _≤_, _<_};
 ghost use lib.ListN.{length};
 ghost use lib.Seq.{sets};
 ghost use Rattle.points.specs.Digits.{span, coordinate, digit};
 ghost use Rattle.points.specs.Points.{rankOf, numbersOf};
+ghost use Rattle.points.specs.Slices.{pointAt};
+
+pub mod order;
+
 use ring::Point;
 
 // The digit of the coordinate 0.
@@ -40,4 +44,17 @@ pub fn put(out: &mut [i32], k: usize, v: Point)
     out[k + 1] = b;
     out[k + 2] = c;
     out[k + 3] = d;
+}
+
+// The point number i of a slice.
+pub fn point_at(points: &[i32], i: usize) -> Point
+    requires { ⌜ 4 * i + 4 ≤ length (now points) ⌝ }
+    ensures { λ r. ⌜ r ≡ pointAt (now (points .entry)) i ⌝ }
+{
+    Point {
+        a: points[4 * i],
+        b: points[4 * i + 1],
+        c: points[4 * i + 2],
+        d: points[4 * i + 3],
+    }
 }

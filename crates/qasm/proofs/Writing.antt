@@ -1,13 +1,11 @@
--- What the code meets that writes: a letter's line, the text of a word from a place on, lines put one behind the other. Assumes nothing.
-use mathlib.Core.Path.{_≡_, refl, sym, ap, ap₂, _∙_}
+-- What the code meets that writes: a letter's line, the text of a word from a place on. Assumes nothing.
+use mathlib.Core.Path.{_≡_, refl, sym, ap, _∙_}
 use mathlib.Core.List.{List, [], _++_}
 use Prim.Native.Nat.{ℕ, zero, suc, _+_, _-_, _*_, _≤_, _<_}
 use native.Mathlib.Nat.{le-of-eq}
 use native.Mathlib.Omega.{arith}
-use lib.ListN.{length, getD, drop, length-append, take-append-drop}
+use lib.ListN.{length, getD, drop, length-append}
 use lib.Seq.{paste-zero}
-use Rattle.text.specs.Written.{written}
-use Rattle.text.specs.Append.{Appended, appended, append-more}
 use Rattle.text.proofs.Writing.{Put, put-fits}
 use Rattle.alphabet.specs.Letters.{Letter, letterOf, lettersOf, letters-end, letters-more}
 use Rattle.qasm.specs.Text.{line, textOf, same}
@@ -59,16 +57,3 @@ module _ (w : List ℕ) where
       let e : suc i - 1 ≡ i = omega arith in
       let f : length (textFrom (suc i - 1)) ≡ length (textFrom i) = ap (λ (j : ℕ). length (textFrom j)) e in
       omega (arith, length-back (suc i) (omega arith) h, text-fewer i (omega arith))
-
--- ---- lines put one behind the other, from the start of a slice
-pub put-first : (xs : List ℕ) → Appended xs 0 [] xs 0
-put-first xs = record { text = refl; end = refl; same = refl; past = refl }
-
-pub put-next : (xs t : List ℕ) (l mid : List ℕ) (at : ℕ) {out : List ℕ} {r : ℕ} → Appended xs 0 t mid at → length t + length l ≤ length xs → Put mid at l out r → Appended xs 0 (t ++ l) out r
-put-next xs t l mid at {out} {r} a h p =
-    append-more xs 0 t l mid out at r a (appended mid at l out r (omega (arith, a .end, a .same)) (p .0) (p .1))
-
-pub put-whole : (xs t out : List ℕ) (r : ℕ) → length t ≤ length xs → Appended xs 0 t out r → out ≡ written xs 0 t
-put-whole xs t out r h a =
-    let e = a .end in
-    sym (take-append-drop r out) ∙ ap₂ _++_ (a .text) (a .past ∙ ap (λ (k : ℕ). drop k xs) e) ∙ put-fits xs 0 t (omega arith) .0

@@ -5,6 +5,7 @@ use mathlib.Core.List.{List}
 use Prim.Native.Nat.{ℕ}
 use lib.Dec.{leb}
 use lib.ListN.{length}
+use Rattle.refusals.specs.Refusals.{notALetter, notALine, noRoom}
 use Rattle.text.specs.Written.{written}
 use Rattle.alphabet.specs.Letters.{bytes, lettersOf, areLetters}
 use Rattle.qasm.specs.declared.Refusal.{Refusal}
@@ -15,9 +16,9 @@ use Rattle.qasm.specs.Text.{textOf, isText, wordOf}
 
 -- "15 when writing, 17 when reading a line that isn't one of the three or isn't closed; then 13 if and only if the text or word doesn't fit its slice"
 abbrev pub numberOf : Refusal → ℕ
-numberOf NotALetter = 15
-numberOf NotALine = 17
-numberOf NoRoom = 13
+numberOf NotALetter = notALetter
+numberOf NotALine = notALine
+numberOf NoRoom = noRoom
 
 -- bytes that go into a slice of a length
 abbrev pub fitted : List ℕ → ℕ → Answer

@@ -27,9 +27,9 @@ impl Refusal {
         ensures { λ r. ⌜ r ≡ numberOf self ⌝ }
     {
         match self {
-            Refusal::NotALetter => 15,
-            Refusal::NotALine => 17,
-            Refusal::NoRoom => 13,
+            Refusal::NotALetter => refusals::NOT_A_LETTER,
+            Refusal::NotALine => refusals::NOT_A_LINE,
+            Refusal::NoRoom => refusals::NO_ROOM,
         }
     }
 }
@@ -38,10 +38,11 @@ impl Refusal {
 pub fn write(word: &[u8], text: &mut [u8]) -> Answer
     ensures { λ r. ⌜ Writes (now (word .entry)) (now (text .entry)) (now (text .exit)) r ⌝ }
 {
-    if !alphabet::are_letters(word) {
+    let letters = alphabet::are_letters(word);
+    let n = lines_of(word);
+    if !letters {
         return Answer::Refused(Refusal::NotALetter);
     }
-    let n = lines_of(word);
     if text.len() / 8 < n {
         return Answer::Refused(Refusal::NoRoom);
     }

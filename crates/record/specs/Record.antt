@@ -2,6 +2,8 @@
 use mathlib.Core.Path.{_≡_, refl, ap}
 use mathlib.Core.Bool.{true, false, cond}
 use mathlib.Core.List.{List, [], _∷_}
+use mathlib.Core.Option.{Option}
+use mathlib.Core.Option as Opt
 use Prim.Native.Nat.{ℕ, _-_}
 use native.Mathlib.Omega.{arith}
 use lib.Dec.{eqb, leb, ltb}
@@ -22,6 +24,7 @@ use Rattle.operator.specs.Operator as Op
 use Rattle.kinds.specs.declared.Kind.{Kind}
 use Rattle.kinds.specs.declared.Kind.the-variants as K
 use Rattle.kinds.specs.declared.Turn.{Turn}
+use Rattle.record.specs.declared.Record.{Record}
 use Rattle.record.specs.declared.Record.the-variants as Rec
 use Rattle.kinds.specs.declared.Refusal.the-variants.{NoKind, UnknownKind, OutOfRange, NotPositive, OddParity, NotSpecial, NoDirection}
 use Rattle.kinds.specs.declared.Admission.{Admission}
@@ -101,14 +104,27 @@ unfoldable pub readingOf : List ℕ → Turn → Reading
 readingOf [] t = Refused NoKind
 readingOf (b ∷ body) t = kindReading (kindOf b) body t
 
--- the values of each case (SPEC, "Refusals"): the refusal's number, 0 where there is none, and the bytes taken. A refused reading takes none
+-- the kind of a record
+abbrev pub shapeKind : Region → Kind
+shapeKind (Shape.Rectangle r) = K.Rectangle
+shapeKind (Shape.Ellipse e) = K.Ellipse
+shapeKind (Shape.Slice s) = K.Slice
+
+abbrev pub recordKind : Record → Kind
+recordKind (Rec.Scale k) = K.Scale
+recordKind (Rec.Selection all) = K.Selection
+recordKind (Rec.Region r) = shapeKind r
+recordKind (Rec.Operator g) = K.Operator
+
+-- the values of each case (SPEC, "Refusals"): the refusal's number, 0 where there is none, the bytes taken, and the kind. A refused reading takes none, and has none
 pub record Values : Type 0 where
   pub refusal : ℕ
   pub taken : ℕ
+  pub kind : Option Kind
 
 abbrev pub valuesOf : Reading → Values
-valuesOf (Accepted x n) = record { refusal = 0; taken = n }
-valuesOf (Refused f) = record { refusal = number f; taken = 0 }
+valuesOf (Accepted x n) = record { refusal = 0; taken = n; kind = Opt.some (recordKind x) }
+valuesOf (Refused f) = record { refusal = number f; taken = 0; kind = Opt.none }
 
 -- an answer: the case, and its values
 pub record Reads (bytes : List ℕ) (t : Turn) (r : Reading) : Type 0 where

@@ -59,13 +59,13 @@ sinceOf ms = sinceAfter world [] (exchangesOf ms)
 
 -- ---- a run is a list of steps of the model
 pub link-steps : {s t : Session} {m : Made} → Link s m t → _≡_ {A = Model.Outcome world} (answered m, meaning t) (step world (m .call) (meaning s))
-link-steps (read bytes e) = e
+link-steps (read bytes e) = e .met
 link-steps (hand-out old g) = g .met
-link-steps (rewound e) = e
-link-steps (cleared e) = e
-link-steps (has-solution e) = e
-link-steps (has-image w e) = e
-link-steps (least e) = e
+link-steps (rewound e) = e .met
+link-steps (cleared e) = e .met
+link-steps (has-solution e) = e .met
+link-steps (has-image w e) = e .met
+link-steps (least e) = e .met
 
 module _ {s t : Session} {m : Made} (k : Link s m t) where
   pub link-answer : answered m ≡ step world (m .call) (meaning s) .0

@@ -88,7 +88,7 @@ one-answers : (b : Bool) (m : Made) (l : List Made) → answersOf (cond b l (m �
 one-answers true m l = refl
 one-answers false m l = refl
 
-kept-calls : {s t : Session} {ms : List Made} → From s ms t → callsOf (kept ms) ≡ unrefused world (meaning s) (callsOf ms)
+pub kept-calls : {s t : Session} {ms : List Made} → From s ms t → callsOf (kept ms) ≡ unrefused world (meaning s) (callsOf ms)
 kept-calls none = refl
 kept-calls (then {m} {ms} k r) =
     let e = kept-calls r ∙ ap (λ (z : Model.Session world). unrefused world z (callsOf ms)) (link-session k) in

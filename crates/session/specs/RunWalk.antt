@@ -1,11 +1,10 @@
 -- Demand 2 for every run of the code's calls: a finished walk has handed out the point v if and only if v solves the job and is selected.
 use mathlib.Core.Path.{_≡_, refl, sym, ap, _∙_}
 use mathlib.Core.Bool.{Bool, true, false, not, false≢true}
-use mathlib.Core.List.{List, [], _∷_, map, List·Memᴰ, List·Memᴰ·head, List·Memᴰ·tail, List·Memᴰ·not-nil, List·Memᴰ·cases-cons}
-use mathlib.Core.Logic.{_↔_, ⊎-elim}
-use Prim.Native.Nat.{ℕ, zero, suc, _<_}
+use mathlib.Core.List.{List, [], _∷_, map, List·Memᴰ}
+use mathlib.Core.Logic.{_↔_}
+use Prim.Native.Nat.{ℕ, zero, suc}
 use native.Mathlib.Omega.{arith}
-use lib.IntN.{ℤ}
 use lib.ListN.{take}
 use Rattle.ring.specs.declared.Point.{Point}
 use Rattle.region.specs.declared.Job.{Job}
@@ -13,16 +12,17 @@ use Rattle.region.specs.Region.{solves}
 use Rattle.region.specs.Selection.{selects, listed, listed-parts, is-listed}
 use Rattle.ranks.specs.Rest.{Place, isNil}
 use Rattle.ranks.specs.Rank.{top}
-use Rattle.ranks.specs.Members.{Rising, rest-sound}
-use Rattle.ranks.specs.Handed.{flat}
+use Rattle.ranks.specs.Members.{Rising}
+use Rattle.points.specs.Listed.{listed-there, there-listed}
+use Rattle.points.specs.Ascending.{Ascending, ascending, rest-passing}
+use Rattle.points.specs.Slices.{pointsOf, flat-points}
 use Rattle.cuts.specs.Digits.{span}
-use Rattle.lists.specs.Walk.{pointOf, listedAt, numbersOf, full}
-use Rattle.lists.specs.Points.{PointBefore, point-order, rank-point}
-use Rattle.lists.specs.Full.{Listed, full-holds, full-empty, listed-fits}
+use Rattle.lists.specs.Walk.{pointOf, listedAt, full}
+use Rattle.lists.specs.Full.{full-holds, full-empty, listed-fits}
 use Rattle.operator.specs.declared.Operator.{Operator}
 use Rattle.calls.specs.Session.{whole, plain, early, walking}
 use Rattle.calls.specs.Session as Model
-use Rattle.calls.specs.Rules.{begin, tallied}
+use Rattle.calls.specs.Rules.{begin, knownAfter}
 use Rattle.calls.specs.Agree.{jobOf, whole-job}
 use Rattle.calls.specs.Since.{points, spaces, fullOf}
 use Rattle.calls.specs.End.{reported, finished-all}
@@ -36,71 +36,15 @@ use Rattle.stages.specs.Session.{stageOf, meaning, Steps}
 use Rattle.session.specs.Run.{Made, Run, callsOf, sinceOf, from-after}
 use Rattle.session.specs.RunCalls.{listOf, run-since, run-first, run-rising}
 
--- numbers read as points, four for each
-abbrev pub pointsOf : List ℤ → List Point
-pointsOf [] = []
-pointsOf (a ∷ []) = []
-pointsOf (a ∷ b ∷ []) = []
-pointsOf (a ∷ b ∷ c ∷ []) = []
-pointsOf (a ∷ b ∷ c ∷ d ∷ l) = record { a = a; b = b; c = c; d = d } ∷ pointsOf l
-
 -- the points handed out since the last rewind or clearing
 abbrev pub handedOut : List Made → List Point
 handedOut ms = pointsOf (points world (sinceOf ms))
-
--- point order: a first, then b, c, d, as signed numbers: each point comes before all that follow it, so none comes twice
-abbrev pub BeforeAll : Point → List Point → Type 0
-BeforeAll v [] = Unit {0}
-BeforeAll v (w ∷ l) = PointBefore v w × BeforeAll v l
-
-abbrev pub Ascending : List Point → Type 0
-Ascending [] = Unit {0}
-Ascending (v ∷ l) = BeforeAll v l × Ascending l
-
--- ---- ranks and their points
-flat-points : (l : List ℕ) → pointsOf (flat numbersOf l) ≡ map pointOf l
-flat-points [] = refl
-flat-points (r ∷ l) = ap (λ (t : List Point). pointOf r ∷ t) (flat-points l)
-
-listed-there : (l : List ℕ) (v : Point) → List·Memᴰ v (map pointOf l) → Listed l v
-listed-there [] v m = absurd (List·Memᴰ·not-nil m)
-listed-there (r ∷ l) v m =
-    ⊎-elim (λ e. record { at = r; held = List·Memᴰ·head refl; point = sym e }) (λ k. let h = listed-there l v k in record { at = h .at; held = List·Memᴰ·tail (h .held); point = h .point })
-    (List·Memᴰ·cases-cons m)
-
-there-listed : (l : List ℕ) (v : Point) (r : ℕ) → List·Memᴰ r l → pointOf r ≡ v → List·Memᴰ v (map pointOf l)
-there-listed [] v r m e = absurd (List·Memᴰ·not-nil m)
-there-listed (q ∷ l) v r m e = ⊎-elim (λ f. List·Memᴰ·head (sym e ∙ ap pointOf f)) (λ k. List·Memᴰ·tail (there-listed l v r k e)) (List·Memᴰ·cases-cons m)
-
-module _ (j : Job) where
-  abbrev Passing : List ℕ → Type 0
-  Passing [] = Unit {0}
-  Passing (r ∷ l) = (listedAt j r ≡ true) × Passing l
-
-  passing : (l : List ℕ) → ((r : ℕ) → List·Memᴰ r l → listedAt j r ≡ true) → Passing l
-  passing [] h = tt
-  passing (r ∷ l) h = (h r (List·Memᴰ·head refl), passing l (λ q m. h q (List·Memᴰ·tail m)))
-
-  passing-take : (n : ℕ) (l : List ℕ) → Passing l → Passing (take n l)
-  passing-take zero l h = tt
-  passing-take (suc n) [] h = tt
-  passing-take (suc n) (r ∷ l) h = (h .0, passing-take n l (h .1))
-
-  before-all : (r lo : ℕ) (l : List ℕ) → listedAt j r ≡ true → r < lo → Rising lo l → Passing l → BeforeAll (pointOf r) (map pointOf l)
-  before-all r lo [] t h up s = tt
-  before-all r lo (q ∷ l) t h up s =
-      let less : r < q = omega arith in
-      (point-order (pointOf r) (pointOf q) (listed-fits j (pointOf r) t) (listed-fits j (pointOf q) (s .0)) .1 (rw (rank-point r, rank-point q) less), before-all r (suc q) l t (omega arith) (up .1) (s .1))
-
-  ascending : (lo : ℕ) (l : List ℕ) → Rising lo l → Passing l → Ascending (map pointOf l)
-  ascending lo [] up s = tt
-  ascending lo (r ∷ l) up s = (before-all r (suc r) l (s .0) (omega arith) (up .1) (s .1), ascending (suc r) l (up .1) (s .1))
 
 first-ascending : (m : Model.Session world) (n : ℕ) → Rising 0 (take n (fullOf world m)) → Ascending (map pointOf (take n (fullOf world m)))
 first-ascending (early p) zero up = tt
 first-ascending (early p) (suc n) up = tt
 first-ascending (walking j w o) n up =
-    ascending j 0 (take n (Model.full world j)) up (passing-take j n (Model.full world j) (passing j (Model.full world j) (λ r m. rest-sound (listedAt j) (top span) 0 r m .2)))
+    ascending (listed j) (listed-fits j) 0 (take n (Model.full world j)) up (rest-passing (listedAt j) n (top span) 0)
 
 -- in rising order, each once, of the points themselves, for every run
 pub run-points : {ms : List Made} {t : Session} → Run ms t → Ascending (handedOut ms)
@@ -116,7 +60,7 @@ pub record Finished (ms : List Made) (t : Session) : Type 0 where
   pub course : Course
   pub stands : t .stage ≡ S.Walking course
   -- its job is the one that the records read make, by the rules
-  pub job : tallied world (begin world) (callsOf ms) .job ≡ whole (course .job)
+  pub job : knownAfter world (begin world) (callsOf ms) .job ≡ whole (course .job)
   pub solutions : (v : Point) → List·Memᴰ v (handedOut ms) ↔ SelectedSolution (course .job) v
   pub rising : Ascending (handedOut ms)
 
@@ -127,7 +71,7 @@ course-of (S.Walking c) j w o e = (c, refl, cc)
 holds-just : (j : Job) (v : Point) → List·Memᴰ v (map pointOf (full j)) ↔ SelectedSolution j v
 holds-just j v = (
   (λ m. let p = listed-parts j v (full-holds j v .1 (listed-there (full j) v m)) in (p .1, p .0)),
-  (λ s. let h = full-holds j v .0 (is-listed j v (s .1) (s .0)) in there-listed (full j) v (h .at) (h .held) (h .point)),
+  (λ s. let h = full-holds j v .0 (is-listed j v (s .1) (s .0)) in there-listed (full j) v h),
 )
 
 -- a hand-out since the last rewind or clearing reported the end
@@ -164,7 +108,7 @@ none-listed j v = (
 pub run-empty : (s : Session) (c : Course) (b : Bool) → s .stage ≡ S.Walking c → Steps plain [] s s (A.Says b) → (b ≡ false) ↔ ((v : Point) → SelectedSolution (c .job) v → ⊥)
 unfolding full
 run-empty s c b e h =
-    let q : b ≡ not (isNil (full (c .job))) = cc (ap (λ (o : Model.Outcome world). o .0) (rw e at h)) in
+    let q : b ≡ not (isNil (full (c .job))) = cc (ap (λ (o : Model.Outcome world). o .0) (rw e at (h .met))) in
     let n = nil-not (full (c .job)) in
     let m = full-empty (c .job) in
     ((λ f v. none-listed (c .job) v .0 (m .0 (n .0 (sym q ∙ f)) v)), (λ g. q ∙ n .1 (m .1 (λ v. none-listed (c .job) v .1 (g v)))))

@@ -21,7 +21,7 @@ use Rattle.stages.specs.Session.{answerOf, Steps}
 
 -- what is answered where the job is whole
 asked : (s : Session) (c : Course) (a : Answer) → s .stage ≡ S.Walking c → Steps shortest [] s s a → found world (bestOf (patternOf (c .job))) ≡ answerOf [] a
-asked s c a e h = sym (ap (λ (o : Model.Outcome world). o .0) (rw e at h))
+asked s c a e h = sym (ap (λ (o : Model.Outcome world). o .0) (rw e at (h .met)))
 
 is-found : (p : Pattern) (k : ℕ) (u t : Point) → found world (bestOf p) ≡ answerOf [] (A.Least k u t) → p ≡ P.Found k u t
 is-found (P.Found h v w) k u t e =

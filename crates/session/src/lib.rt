@@ -33,7 +33,7 @@ pub fn hand_out(s: Session, out: &mut [i32]) -> Outcome
 {
     let g = s.stage;
     match g {
-        Stage::Early(_) => stages::refused(s, Refusal::NoJob),
+        Stage::Early(_) => stages::no_job(s),
         Stage::Walking(c) => hand::from_course(c, out),
     }
 }
@@ -44,7 +44,7 @@ pub fn rewind(s: Session) -> Outcome
 {
     let g = s.stage;
     match g {
-        Stage::Early(_) => stages::refused(s, Refusal::NoJob),
+        Stage::Early(_) => stages::no_job(s),
         Stage::Walking(c) => stages::place::rewound(c),
     }
 }

@@ -4,6 +4,7 @@ use mathlib.Core.List.{List}
 use Prim.Native.Nat.{ℕ, _+_}
 use lib.Dec.{eqb, leb, ltb}
 use lib.ListN.{length, getD}
+use Rattle.refusals.specs.Refusals.{noKind, unknownKind, short, outOfRange, notUnitary, noRoom, noReader}
 use Rattle.ring.specs.declared.Point.{Point}
 use Rattle.ring.specs.Point.Exponent.{exponentOf, pulseCount}
 use Rattle.ranges.specs.Ranges.{topScale}
@@ -11,18 +12,19 @@ use Rattle.equation.specs.Equation.{completes}
 use Rattle.fields.specs.Field.{unsignedAt, signedAt}
 use Rattle.sheet.specs.declared.Sheet.{Sheet}
 use Rattle.sheet.specs.declared.Refusal.{Refusal}
-use Rattle.sheet.specs.declared.Refusal.the-variants.{NoKind, NotASheet, Short, OutOfRange, NotUnitary, NoReader}
+use Rattle.sheet.specs.declared.Refusal.the-variants.{NoKind, NotASheet, Short, OutOfRange, NotUnitary, NoRoom, NoReader}
 use Rattle.sheet.specs.declared.Reading.{Reading}
 use Rattle.sheet.specs.declared.Reading.the-variants.{Desk, Crew, Refused}
 
 -- "19 for another reader number, first; then 1, 2 (any kind but 07), 3, 4 as for records; 12 last and for the desk only"
 abbrev pub numberOf : Refusal → ℕ
-numberOf NoKind = 1
-numberOf NotASheet = 2
-numberOf Short = 3
-numberOf OutOfRange = 4
-numberOf NotUnitary = 12
-numberOf NoReader = 19
+numberOf NoKind = noKind
+numberOf NotASheet = unknownKind
+numberOf Short = short
+numberOf OutOfRange = outOfRange
+numberOf NotUnitary = notUnitary
+numberOf NoRoom = noRoom
+numberOf NoReader = noReader
 
 -- "kind 07, body 37 bytes: k (0 to 20), the four numbers of u, the four of t (signed 32 bits), ticks (unsigned 32)"; places count from the kind byte
 unfoldable pub pointAt : List ℕ → ℕ → Point

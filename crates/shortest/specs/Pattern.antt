@@ -1,6 +1,8 @@
 -- The shortest pattern: SPEC, "Shortest pattern".
+use mathlib.Core.Path.{_≡_, ap}
 use mathlib.Core.Bool.{false}
 use Prim.Native.Nat.{ℕ, zero, suc}
+use Rattle.refusals.specs.Refusals.{noPattern}
 use Rattle.region.specs.declared.Job.{Job}
 use Rattle.pairing.specs.declared.Found.{Found}
 use Rattle.pairing.specs.declared.Found.the-variants as F
@@ -27,3 +29,16 @@ fromScale j (suc n) i = orElse i (fromScale j n (suc i)) (foundAt (at j i))
 -- "Taking a job's k as the top, try scales 0 to k in turn"
 unfoldable pub patternOf : Job → Pattern
 patternOf j = fromScale j (suc (j .k)) 0
+
+-- the number of each case (SPEC, "Refusals"): 0 for a pattern, 14 where there is none
+abbrev pub number : Pattern → ℕ
+number (P.Found k u t) = 0
+number P.Missing = noPattern
+
+-- an answer: the case, and its number
+pub record Tells (j : Job) (r : Pattern) : Type 0 where
+  pub pattern : r ≡ patternOf j
+  pub value : number r ≡ number (patternOf j)
+
+pub tells : {j : Job} {r : Pattern} → r ≡ patternOf j → Tells j r
+tells e = record { pattern = e; value = ap number e }

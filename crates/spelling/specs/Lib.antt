@@ -9,6 +9,7 @@ pub mod Halving
 pub mod Equation
 pub mod Step
 pub mod Table
+pub mod Bytes
 pub mod Word
 pub mod Least
 pub mod Number

@@ -1,3 +1,4 @@
 pub mod World
 pub mod Session
 pub mod Meaning
+pub mod Place

@@ -1,7 +1,9 @@
 -- What a session and its answers mean, in the model of `calls`. Every value of the type has a meaning.
-use mathlib.Core.Path.{_≡_, refl, ap, _∙_}
-use mathlib.Core.Bool.{Bool, true}
+use mathlib.Core.Path.{_≡_, refl, sym, ap, _∙_}
+use mathlib.Core.Bool.{Bool, true, false}
 use mathlib.Core.List.{List, []}
+use mathlib.Core.Option.{Option}
+use mathlib.Core.Option as O
 use Prim.Native.Nat.{ℕ, _/_}
 use lib.IntN.{ℤ}
 use lib.ListN.{length, drop}
@@ -30,7 +32,7 @@ use Rattle.stages.specs.declared.Stage.the-variants as S
 use Rattle.stages.specs.declared.Session.{Session}
 use Rattle.stages.specs.declared.Answer.{Answer}
 use Rattle.stages.specs.declared.Answer.the-variants as A
-use Rattle.stages.specs.World.{world, turnAt, partReading, operatorReading}
+use Rattle.stages.specs.World.{Best, world, turnAt, partReading, operatorReading}
 
 abbrev pub courseOf : Course → Model.Session world
 courseOf c = walking (c .job) (spotOf (c .spot)) (c .operator)
@@ -49,6 +51,11 @@ meaning s = stageOf (s .stage)
 abbrev pub fresh : Session
 fresh = record { stage = S.Early Nothing }
 
+-- the scale of a whole job
+abbrev pub scaleOf : Model.Session world → ℕ
+scaleOf (early p) = 0
+scaleOf (walking j w o) = j .k
+
 -- ---- answers, with the number of each refusal (SPEC, "Refusals"); a hand-out's with the lent slice as it is then
 abbrev pub answerOf : List ℤ → Answer → Model.Answer world
 answerOf l (A.Taken n) = taken n
@@ -61,14 +68,57 @@ answerOf l (A.Refused f) = refused (number f)
 abbrev pub outcome : List ℤ → Session → Answer → Model.Outcome world
 outcome l s a = (answerOf l a, meaning s)
 
--- a call that finds s, leaves t and answers a, with the lent slice l (none: []), is a step of the model
-abbrev pub Steps : Call world → List ℤ → Session → Session → Answer → Type 0
-Steps c l s t a = outcome l t a ≡ step world c (meaning s)
+-- the values of each case (SPEC, "Refusals"): the refusal's number, 0 where there is none; the bytes that a reading took; a hand-out's count and end; a question's yes or no; the
+-- shortest pattern. "A refused reading takes 0 bytes; a refused hand-out counts 0, end not reached"
+pub record Values : Type 0 where
+  pub refusal : ℕ
+  pub taken : ℕ
+  pub count : ℕ
+  pub end : Bool
+  pub yes : Bool
+  pub pattern : Option Best
+
+abbrev pub valuesOf : Answer → Values
+valuesOf (A.Taken n) = record { refusal = 0; taken = n; count = 0; end = false; yes = false; pattern = O.none }
+valuesOf (A.Handed n e) = record { refusal = 0; taken = 0; count = n; end = e; yes = false; pattern = O.none }
+valuesOf A.Done = record { refusal = 0; taken = 0; count = 0; end = false; yes = false; pattern = O.none }
+valuesOf (A.Says b) = record { refusal = 0; taken = 0; count = 0; end = false; yes = b; pattern = O.none }
+valuesOf (A.Least k u t) = record { refusal = 0; taken = 0; count = 0; end = false; yes = false; pattern = O.some (record { scale = k; u = u; t = t }) }
+valuesOf (A.Refused f) = record { refusal = number f; taken = 0; count = 0; end = false; yes = false; pattern = O.none }
+
+-- of the model's answers
+abbrev pub valuesBy : Model.Answer world → Values
+valuesBy (taken n) = record { refusal = 0; taken = n; count = 0; end = false; yes = false; pattern = O.none }
+valuesBy (handed n e l) = record { refusal = 0; taken = 0; count = n; end = e; yes = false; pattern = O.none }
+valuesBy done = record { refusal = 0; taken = 0; count = 0; end = false; yes = false; pattern = O.none }
+valuesBy (says b) = record { refusal = 0; taken = 0; count = 0; end = false; yes = b; pattern = O.none }
+valuesBy (best b) = record { refusal = 0; taken = 0; count = 0; end = false; yes = false; pattern = O.some b }
+valuesBy (refused r) = record { refusal = r; taken = 0; count = 0; end = false; yes = false; pattern = O.none }
+
+pub same-values : (l : List ℤ) (a : Answer) → valuesOf a ≡ valuesBy (answerOf l a)
+same-values l (A.Taken n) = refl
+same-values l (A.Handed n e) = refl
+same-values l A.Done = refl
+same-values l (A.Says b) = refl
+same-values l (A.Least k u t) = refl
+same-values l (A.Refused f) = refl
+
+-- a call that finds s, leaves t and answers a, with the lent slice l (none: []), is a step of the model, and the answer has its values
+pub record Steps (c : Call world) (l : List ℤ) (s t : Session) (a : Answer) : Type 0 where
+  pub met : outcome l t a ≡ step world c (meaning s)
+  pub values : valuesOf a ≡ valuesBy (step world c (meaning s) .0)
+
+pub steps : {c : Call world} {l : List ℤ} {s t : Session} {a : Answer} → outcome l t a ≡ step world c (meaning s) → Steps c l s t a
+steps {l} {a} e = record { met = e; values = same-values l a ∙ ap (λ (o : Model.Outcome world). valuesBy (o .0)) e }
 
 -- the same with the slice that it leaves
 pub record Gives (o : Model.Outcome world) (old new : List ℤ) (t : Session) (a : Answer) : Type 0 where
   pub met : outcome new t a ≡ o
+  pub values : valuesOf a ≡ valuesBy (o .0)
   pub slice : new ≡ lent world (o .0) old
+
+pub gives : {o : Model.Outcome world} {old new : List ℤ} {t : Session} {a : Answer} → outcome new t a ≡ o → new ≡ lent world (o .0) old → Gives o old new t a
+gives {new} {a} e f = record { met = e; values = same-values new a ∙ ap (λ (o : Model.Outcome world). valuesBy (o .0)) e; slice = f }
 
 abbrev pub Hands : Session → List ℤ → List ℤ → Session → Answer → Type 0
 Hands s old new t a = Gives (step world (handOut old) (meaning s)) old new t a
@@ -108,7 +158,7 @@ pub gave-gives : (c : Course) (spot : Spot) (old new : List ℤ) (count : ℕ) (
     → Gives (given world (c .job) (c .operator) old (leftAt (listedAt (c .job)) (top span) (spotOf (c .spot)))) old new (record { stage = S.Walking (record { job = c .job; spot = spot; operator = c .operator }) }) (A.Handed count e)
 gave-gives c spot old new count e g h =
     let k = h ∙ ap isEnded (g .place) ∙ ended-nil (drop (length old / 4) (leftAt (listedAt (c .job)) (top span) (spotOf (c .spot)))) in
-    record { met = λ i. (handed (g .count i) (k i) (g .slice i), walking (c .job) (g .place i) (c .operator)); slice = g .slice }
+    gives (λ i. (handed (g .count i) (k i) (g .slice i), walking (c .job) (g .place i) (c .operator))) (g .slice)
 
 pub course-hands : (c : Course) (v : Point) (old : List ℤ) → c .spot ≡ P.At v
     → step world (handOut old) (courseOf c) ≡ given world (c .job) (c .operator) old (leftAt (listedAt (c .job)) (top span) (spotOf (c .spot)))

@@ -1,4 +1,5 @@
 -- The world of the sessions: the records, jobs, solutions and operators of SPEC, as `calls` asks for them.
+use Rattle.refusals.specs.Refusals.{unknownKind, noKind, outOfTurn}
 use Rattle.kinds.specs.Kinds.{number, kindOf, admissionOf, kind-4}
 use Rattle.record.specs.Record.{readingOf, kindReading}
 use mathlib.Core.Path.{_≡_, refl, subst⁻¹}
@@ -44,19 +45,19 @@ turnAt (First k all a) = T.Second
 -- a record that joins the job; in another's turn none is accepted
 abbrev pub placeScale : Parts → ℕ → ℕ → Reading (Stage Parts Job)
 placeScale Nothing k n = accept n (part (Scaled k))
-placeScale (Scaled h) k n = refuse 8
-placeScale (Selected h all) k n = refuse 8
-placeScale (First h all a) k n = refuse 8
+placeScale (Scaled h) k n = refuse outOfTurn
+placeScale (Selected h all) k n = refuse outOfTurn
+placeScale (First h all a) k n = refuse outOfTurn
 
 abbrev pub placeSelection : Parts → Bool → ℕ → Reading (Stage Parts Job)
-placeSelection Nothing all n = refuse 8
+placeSelection Nothing all n = refuse outOfTurn
 placeSelection (Scaled k) all n = accept n (part (Selected k all))
-placeSelection (Selected k every) all n = refuse 8
-placeSelection (First k every a) all n = refuse 8
+placeSelection (Selected k every) all n = refuse outOfTurn
+placeSelection (First k every a) all n = refuse outOfTurn
 
 -- without a selection only the new points are listed
 abbrev pub placeRegion : Parts → Region → ℕ → Reading (Stage Parts Job)
-placeRegion Nothing a n = refuse 8
+placeRegion Nothing a n = refuse outOfTurn
 placeRegion (Scaled k) a n = accept n (part (First k false a))
 placeRegion (Selected k all) a n = accept n (part (First k all a))
 placeRegion (First k all a) b n = accept n (whole (record { k = k; all = all; a = a; b = b }))
@@ -65,16 +66,16 @@ abbrev pub place : Parts → Record → ℕ → Reading (Stage Parts Job)
 place p (R.Scale k) n = placeScale p k n
 place p (R.Selection all) n = placeSelection p all n
 place p (R.Region a) n = placeRegion p a n
-place p (R.Operator g) n = refuse 8
+place p (R.Operator g) n = refuse outOfTurn
 
 abbrev pub partReading : Parts → Read.Reading → Reading (Stage Parts Job)
 partReading p (RV.Accepted x n) = place p x n
 partReading p (RV.Refused f) = refuse (number f)
 
 abbrev pub note : Record → ℕ → Reading Operator
-note (R.Scale k) n = refuse 8
-note (R.Selection all) n = refuse 8
-note (R.Region a) n = refuse 8
+note (R.Scale k) n = refuse outOfTurn
+note (R.Selection all) n = refuse outOfTurn
+note (R.Region a) n = refuse outOfTurn
 note (R.Operator g) n = accept n g
 
 abbrev pub operatorReading : Read.Reading → Reading Operator
@@ -101,12 +102,12 @@ bestOf S.Missing = O.none
 
 -- ---- out of turn
 -- an operator's bytes before its turn
-pub part-refuses : (b : List ℕ) (p : Parts) → isOperator b ≡ true → partReading p (readingOf b (turnAt p)) ≡ refuse 8
+pub part-refuses : (b : List ℕ) (p : Parts) → isOperator b ≡ true → partReading p (readingOf b (turnAt p)) ≡ refuse outOfTurn
 unfolding readingOf admissionOf
 part-refuses [] p h = absurd (false≢true h)
 part-refuses (k ∷ b) p h = rw (kind-4 k (eqb→eq k 4 (subst⁻¹ T h tt))) (go p)
   where
-    go : (p : Parts) → partReading p (kindReading K.Operator b (turnAt p)) ≡ refuse 8
+    go : (p : Parts) → partReading p (kindReading K.Operator b (turnAt p)) ≡ refuse outOfTurn
     go Nothing = refl
     go (Scaled k) = refl
     go (Selected k all) = refl
@@ -115,17 +116,17 @@ part-refuses (k ∷ b) p h = rw (kind-4 k (eqb→eq k 4 (subst⁻¹ T h tt))) (g
 -- others in its turn
 pub operator-refuses : (b : List ℕ) → isOperator b ≡ false → (r : ℕ) × (operatorReading (readingOf b T.Operators) ≡ refuse r)
 unfolding readingOf kindOf admissionOf
-operator-refuses [] h = (1, refl)
+operator-refuses [] h = (noKind, refl)
 operator-refuses (k ∷ b) h = rw h (go (eqb k 1) (eqb k 2) (eqb k 3) (eqb k 5) (eqb k 6))
   where
     go : (x y z w s : Bool)
         → (r : ℕ) × (operatorReading (kindReading (cond x K.Scale (cond y K.Rectangle (cond z K.Ellipse (cond w K.Slice (cond s K.Selection K.Unknown))))) b T.Operators) ≡ refuse r)
-    go true y z w s = (8, refl)
-    go false true z w s = (8, refl)
-    go false false true w s = (8, refl)
-    go false false false true s = (8, refl)
-    go false false false false true = (8, refl)
-    go false false false false false = (2, refl)
+    go true y z w s = (outOfTurn, refl)
+    go false true z w s = (outOfTurn, refl)
+    go false false true w s = (outOfTurn, refl)
+    go false false false true s = (outOfTurn, refl)
+    go false false false false true = (outOfTurn, refl)
+    go false false false false false = (unknownKind, refl)
 
 abbrev pub world : World
 world = record {
@@ -145,6 +146,6 @@ world = record {
   image = isImage;
   least = λ j. bestOf (patternOf j);
   wide = λ r. refl;
-  turn-part = λ b p h. (8, part-refuses b p h);
+  turn-part = λ b p h. (outOfTurn, part-refuses b p h);
   turn-operator = operator-refuses;
 }

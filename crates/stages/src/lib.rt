@@ -85,6 +85,13 @@ pub fn refused(s: Session, f: Refusal) -> Outcome
     }
 }
 
+// Refused 9: the job is not whole.
+pub fn no_job(s: Session) -> Outcome
+    ensures { λ r. ⌜ (r .session ≡ s) × (r .answer ≡ Answer.Refused Refusal.NoJob) ⌝ }
+{
+    refused(s, Refusal::NoJob)
+}
+
 // The answer that tells a shortest pattern.
 pub fn least(p: Pattern) -> Answer
     ensures { λ r. ⌜ answerOf [] r ≡ found world (bestOf p) ⌝ }

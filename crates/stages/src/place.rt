@@ -3,10 +3,10 @@ ghost use mathlib.Core.Path.{_≡_};
 ghost use mathlib.Core.List.{[]};
 ghost use Rattle.calls.specs.Session.{step, rewind};
 ghost use Rattle.ranks.specs.Rest.{at, isEnded};
-ghost use mathlib.Core.Bool.{true};
-ghost use Rattle.lists.specs.Walk.{rankOf, spotOf};
+ghost use Rattle.lists.specs.Walk.{spotOf};
 ghost use Rattle.stages.specs.World.{world};
 ghost use Rattle.stages.specs.Session.{courseOf, outcome};
+ghost use Rattle.stages.specs.Place.{isLeast};
 use crate::Answer;
 use crate::Course;
 use crate::Outcome;
@@ -32,7 +32,7 @@ pub fn before_all() -> Spot
 
 // Whether a point is the least of all.
 pub fn is_least(v: Point) -> bool
-    ensures { λ r. ⌜ (r ≡ true → rankOf v ≡ 0) ⌝ }
+    ensures { λ r. ⌜ r ≡ isLeast v ⌝ }
 {
     if v.a == LEAST {
         if v.b == LEAST {

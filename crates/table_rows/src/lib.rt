@@ -2,7 +2,6 @@
 ghost use Prim.Native.Nat.{_<_};
 ghost use lib.ListN.{length};
 ghost use Rattle.io.specs.Counts.{Counts};
-use libc::STDOUT_FILENO;
 use scan::Number;
 
 // How many numbers of a row are kept.
@@ -45,16 +44,28 @@ impl Tally {
 
     // A line with both numbers, on standard output.
     pub fn print(self, name: &[u8]) {
-        io::write_all(STDOUT_FILENO, name);
-        io::write_all(STDOUT_FILENO, b": rows ");
-        io::print_decimal(STDOUT_FILENO, self.rows);
-        io::write_all(STDOUT_FILENO, b", different ");
-        io::print_decimal(STDOUT_FILENO, self.different);
-        io::write_all(STDOUT_FILENO, b"\n");
+        let mut line = io::buffer();
+        let n = self.put(&mut line, name);
+        print_first(&line, n);
+    }
+
+    fn put(self, out: &mut [u8], name: &[u8]) -> usize {
+        let mut at = text::put_bytes(out, 0, name);
+        at = text::put_bytes(out, at, b": rows ");
+        at = text::put_unsigned(out, at, self.rows);
+        at = text::put_bytes(out, at, b", different ");
+        at = text::put_unsigned(out, at, self.different);
+        text::put_byte(out, at, b'\n')
     }
 }
 
-// The file's bytes at the start of space, and how many; none where it cannot be opened.
+fn print_first(line: &[u8], n: usize) {
+    if n <= line.len() {
+        streams::print(&line[..n]);
+    }
+}
+
+// The file's bytes at the start of space, and how many; none where it cannot be opened or read.
 pub fn load(name: &[u8], space: &mut [u8]) -> usize
     ensures { λ r. ⌜ Counts r (now (space .exit)) ⌝ }
 {
@@ -63,9 +74,12 @@ pub fn load(name: &[u8], space: &mut [u8]) -> usize
         os::fail(name);
         return 0;
     }
-    let n = io::read_full(fd, space);
+    let got = streams::read(fd, name, space);
     libc::close(fd);
-    n
+    if got.failed {
+        return 0;
+    }
+    got.at
 }
 
 // The numbers of the row at `at`, whatever stands between them.

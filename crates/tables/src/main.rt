@@ -6,7 +6,6 @@ mod lines;
 mod operators;
 mod sign;
 
-use libc::STDOUT_FILENO;
 use table_rows::Row;
 use table_rows::Tally;
 use words::Size;
@@ -77,6 +76,7 @@ fn right(s: &[u8], at: usize, row: Row, table: Table) -> bool {
 fn print_wide(hi: u64, lo: u64) {
     let mut line = io::buffer();
     let n = text::put_wide(&mut line, 0, Size { hi, lo });
-    io::write_all(STDOUT_FILENO, &line[..n]);
-    io::write_all(STDOUT_FILENO, b"\n");
+    if streams::print(&line[..n]) {
+        streams::print(b"\n");
+    }
 }

@@ -12,7 +12,7 @@ use lib.ListN.{length, take, drop, length-take, length-drop}
 use lib.Seq.{drop-drop}
 use Rattle.ranks.specs.Rest.{rest, Place, at, ended, isEnded, isNil, placeOf, ended-nil, leftAt, left-place}
 use Rattle.takes.specs.Session.{World, Taking, refuse, accept, Call, taking, handOut, rewind, clear, full, space, Session, early, walking, Outcome, begun, given, step, answers}
-use Rattle.takes.specs.Rules.{isZero, Tally, Ruling, begin, fresh, takeRule, deal, rule, ruled}
+use Rattle.takes.specs.Rules.{isZero, Known, Ruling, begin, fresh, takeRule, deal, rule, ruled}
 
 take-min : (n : ℕ) (l : List ℕ) → take (min n (length l)) l ≡ take n l
 take-min zero l = rw zero-min
@@ -32,7 +32,7 @@ module _ (W : World) where
   open World W using (Tray, takes, test, top)
 
   -- a session and a tally that stand at the same point of the same tray
-  data Follows : Session W → Tally W → Type 0 where
+  data Follows : Session W → Known W → Type 0 where
     soon : Follows early (begin W)
     along : (t : Tray) (w : Place) (n : ℕ) → n ≤ length (full W t) → leftAt (test t) top w ≡ drop n (full W t)
         → Follows (walking t w) (record { tray = O.some t; total = n; end = isEnded w })
@@ -45,7 +45,7 @@ module _ (W : World) where
   anew : (t : Tray) → Follows (walking t (at 0)) (fresh W t)
   anew t = along t (at 0) 0 (omega arith) refl
 
-  begins : {s : Session W} {y : Tally W} → Follows s y → (x : Taking Tray) → Meets (begun W s x) (takeRule W y x)
+  begins : {s : Session W} {y : Known W} → Follows s y → (x : Taking Tray) → Meets (begun W s x) (takeRule W y x)
   begins f (refuse r) = record { same = refl; next = f }
   begins f (accept n t) = record { same = refl; next = anew t }
 
@@ -65,7 +65,7 @@ module _ (W : World) where
       let f = along t (placeOf (drop k left)) (n + m) (omega arith) (keeps ∙ sym behind) in
       record { same = cc; next = rw (ended-nil (drop k left) ∙ end) at f }
 
-  agrees : (c : Call W) {s : Session W} {y : Tally W} → Follows s y → Meets (step W c s) (rule W c y)
+  agrees : (c : Call W) {s : Session W} {y : Known W} → Follows s y → Meets (step W c s) (rule W c y)
   agrees clear f = record { same = refl; next = soon }
   agrees (taking x) f = begins f (takes x)
   agrees (handOut l) soon = record { same = refl; next = soon }
@@ -74,7 +74,7 @@ module _ (W : World) where
   agrees (handOut l) (along t (at p) n h e) = gives t l (rest (test t) top p) n h e (left-place (test t) top (space W l) p)
   agrees rewind (along t w n h e) = record { same = refl; next = anew t }
 
-  all-agree : (cs : List (Call W)) {s : Session W} {y : Tally W} → Follows s y → answers W s cs ≡ ruled W y cs
+  all-agree : (cs : List (Call W)) {s : Session W} {y : Known W} → Follows s y → answers W s cs ≡ ruled W y cs
   all-agree [] f = refl
   all-agree (c ∷ cs) f = let a = agrees c f in ap₂ _∷_ (a .same) (all-agree cs (a .next))
 

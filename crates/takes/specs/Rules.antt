@@ -6,6 +6,7 @@ use mathlib.Core.Option as O
 use Prim.Native.Nat.{ℕ, zero, suc, _+_, _-_, min}
 use lib.IntN.{ℤ}
 use lib.ListN.{length, take, drop}
+use Rattle.refusals.specs.Refusals.{noJob, afterEnd}
 use Rattle.ranks.specs.Handed.{put}
 use Rattle.takes.specs.Session.{World, Taking, refuse, accept, Call, taking, handOut, rewind, clear, Answer, refused, taken, handed, done, full, space}
 
@@ -16,24 +17,24 @@ isZero (suc n) = false
 module _ (W : World) where
   open World W using (Tray, takes, width, coords)
 
-  pub record Tally : Type 0 where
+  pub record Known : Type 0 where
     pub tray : Option Tray
     pub total : ℕ
     pub end : Bool
 
   abbrev pub Ruling : Type 0
-  Ruling = Answer W × Tally
+  Ruling = Answer W × Known
 
   -- Start: no tray, total 0, end no
-  abbrev pub begin : Tally
+  abbrev pub begin : Known
   begin = record { tray = O.none; total = 0; end = false }
 
   -- a tray taken: total 0, end no
-  abbrev pub fresh : Tray → Tally
+  abbrev pub fresh : Tray → Known
   fresh t = record { tray = O.some t; total = 0; end = false }
 
   -- Take: refused, and nothing changes; else the tray replaces the one there
-  abbrev pub takeRule : Tally → Taking Tray → Ruling
+  abbrev pub takeRule : Known → Taking Tray → Ruling
   takeRule y (refuse r) = (refused r, y)
   takeRule y (accept n t) = (taken n, fresh t)
 
@@ -51,23 +52,23 @@ module _ (W : World) where
 
   -- Hand-out: refused 10 while end is yes, and nothing changes; else the count is the lesser of the space and what is left
   abbrev pub handRule : Tray → List ℤ → ℕ → Bool → Ruling
-  handRule t l total true = (refused 10, record { tray = O.some t; total = total; end = true })
+  handRule t l total true = (refused afterEnd, record { tray = O.some t; total = total; end = true })
   handRule t l total false = deal t total l (min (space W l) (left t total))
 
-  abbrev pub ruleAt : Call W → Option Tray → Tally → Ruling
+  abbrev pub ruleAt : Call W → Option Tray → Known → Ruling
   -- Clearing: as at the start
   ruleAt clear o y = (done, begin)
   ruleAt (taking x) o y = takeRule y (takes x)
   -- Hand-out and rewind: refused 9 until a tray is taken, and nothing changes
-  ruleAt (handOut l) O.none y = (refused 9, y)
+  ruleAt (handOut l) O.none y = (refused noJob, y)
   ruleAt (handOut l) (O.some t) y = handRule t l (y .total) (y .end)
-  ruleAt rewind O.none y = (refused 9, y)
+  ruleAt rewind O.none y = (refused noJob, y)
   ruleAt rewind (O.some t) y = (done, fresh t)
 
-  abbrev pub rule : Call W → Tally → Ruling
+  abbrev pub rule : Call W → Known → Ruling
   rule c y = ruleAt c (y .tray) y
 
   -- the answers that the rules give
-  abbrev pub ruled : Tally → List (Call W) → List (Answer W)
+  abbrev pub ruled : Known → List (Call W) → List (Answer W)
   ruled y [] = []
   ruled y (c ∷ cs) = (rule c y) .0 ∷ ruled ((rule c y) .1) cs

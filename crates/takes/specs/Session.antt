@@ -5,6 +5,7 @@ use mathlib.Core.List.{List, [], _∷_}
 use Prim.Native.Nat.{ℕ, _/_}
 use lib.IntN.{ℤ}
 use lib.ListN.{length, take, drop}
+use Rattle.refusals.specs.Refusals.{noJob, afterEnd}
 use Rattle.ranks.specs.Handed.{put}
 use Rattle.ranks.specs.Rest.{rest, Place, at, ended, isNil, placeOf}
 
@@ -71,10 +72,10 @@ module _ (W : World) where
   abbrev pub step : Call → Session → Outcome
   step clear s = (done, early)
   step (taking x) s = begun s (takes x)
-  step (handOut l) early = (refused 9, early)
-  step (handOut l) (walking t ended) = (refused 10, walking t ended)
+  step (handOut l) early = (refused noJob, early)
+  step (handOut l) (walking t ended) = (refused afterEnd, walking t ended)
   step (handOut l) (walking t (at p)) = given t l (rest (test t) top p)
-  step rewind early = (refused 9, early)
+  step rewind early = (refused noJob, early)
   step rewind (walking t w) = (done, walking t (at 0))
 
   -- the first call finds a session without a tray, every other one what the call before it left: the answers, and the session that is left

@@ -6,6 +6,7 @@ use Prim.Native.Nat.{ℕ, zero, suc, _+_, _-_, _≤_, _<_}
 use native.Mathlib.Omega.{arith}
 use lib.Dec.{eqb, leb, ltb}
 use lib.ListN.{length, drop, set}
+use Rattle.refusals.specs.Refusals.{outOfRange, form}
 use Rattle.region.specs.declared.Region.{Region}
 use Rattle.kinds.specs.declared.Turn.the-variants as T
 use Rattle.record.specs.declared.Record.the-variants as Rec
@@ -51,7 +52,7 @@ to-come-none zero [] h = refl
 to-come-none (suc room) [] h = refl
 to-come-none room (b ∷ l) h = absurd (omega arith)
 
-pub to-come-full : (room : ℕ) (l : List ℕ) → room ≡ 0 → 0 < length l → regionsOf room l ≡ refused 16
+pub to-come-full : (room : ℕ) (l : List ℕ) → room ≡ 0 → 0 < length l → regionsOf room l ≡ refused form
 unfolding regionsOf
 to-come-full room [] e h = absurd (omega arith)
 to-come-full zero (b ∷ l) e h = refl
@@ -101,7 +102,7 @@ never r m t e = absurd (let z : _≡_ {A = ℕ} 0 1 = cc in omega arith)
 
 module _ (k : ℕ) (all : Bool) (n : ℕ) (ts : List Target) (m : ℕ) (t : Tray) where
   ended-taken : (b : Region) (x : Bool) → endedBy (Model.accept n (trayOf k all n ts b)) x ≡ Model.accept m t → (t .count ≡ n) × (m ≡ n)
-  ended-taken b true e = never 16 m t e
+  ended-taken b true e = never form m t e
   ended-taken b false e =
       let q : trayOf k all n ts b ≡ t = cc in
       let i : n ≡ m = cc in
@@ -115,9 +116,9 @@ pub taken-few : (g : Given) (m : ℕ) (t : Tray) → takes g ≡ Model.accept m 
 unfolding takes
 taken-few g m t e = go (leb (g .scale) 20 && leb (g .byte) 1) (isNil (g .a)) (regionsOf 8 (g .a)) refl e
   where
-    go : (x y : Bool) (r : Regions) → regionsOf 8 (g .a) ≡ r → cond x (cond y (Model.refuse 16) (secondOf (g .scale) (eqb (g .byte) 1) (paddedOf r) (g .b))) (Model.refuse 4) ≡ Model.accept m t → (t .count ≡ m) × (m ≤ 8)
-    go false y r f e = never 4 m t e
-    go true true r f e = never 16 m t e
+    go : (x y : Bool) (r : Regions) → regionsOf 8 (g .a) ≡ r → cond x (cond y (Model.refuse form) (secondOf (g .scale) (eqb (g .byte) 1) (paddedOf r) (g .b))) (Model.refuse outOfRange) ≡ Model.accept m t → (t .count ≡ m) × (m ≤ 8)
+    go false y r f e = never outOfRange m t e
+    go true true r f e = never form m t e
     go true false (refused n) f e = never n m t e
     go true false (all-read l) f e =
         let h = regions-few 8 (g .a) l f in

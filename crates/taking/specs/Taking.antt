@@ -8,6 +8,7 @@ use native.Mathlib.Omega.{arith}
 use borrow.Author.Tests.{le-leb, lt-leb}
 use lib.Dec.{eqb, leb, ltb}
 use lib.ListN.{length, drop, replicate}
+use Rattle.refusals.specs.Refusals.{outOfRange, form}
 use Rattle.region.specs.declared.Region.{Region}
 use Rattle.kinds.specs.declared.Refusal.the-variants.{OutOfTurn}
 use Rattle.kinds.specs.declared.Turn.the-variants as T
@@ -39,7 +40,7 @@ pub record Given : Type 0 where
 -- the number of each refusal
 abbrev pub numberOf : Refusal → ℕ
 numberOf (F.Record f) = number f
-numberOf F.Form = 16
+numberOf F.Form = form
 
 -- ---- one record: a region with the bytes it took, or its refusal (8 for another kind)
 abbrev pub foundIn : Record → ℕ → Found
@@ -71,7 +72,7 @@ onward next (O.Refused f) = refused (number f)
 -- there is room for so many: where one more would begin, 16
 unfoldable pub regionsOf : ℕ → List ℕ → Regions
 regionsOf zero [] = all-read []
-regionsOf zero (b ∷ l) = refused 16
+regionsOf zero (b ∷ l) = refused form
 regionsOf (suc room) [] = all-read []
 regionsOf (suc room) (b ∷ l) = onward (λ n. regionsOf room (drop n (b ∷ l))) (oneOf (b ∷ l))
 
@@ -98,7 +99,7 @@ abbrev pub trayOf : ℕ → Bool → ℕ → List Target → Region → Tray
 trayOf k all n ts b = record { k = k; all = all; b = b; count = n; targets = ts }
 
 abbrev pub endedBy : Model.Taking Tray → Bool → Model.Taking Tray
-endedBy t true = Model.refuse 16
+endedBy t true = Model.refuse form
 endedBy t false = t
 
 abbrev pub lastOf : ℕ → Bool → ℕ → List Target → List ℕ → Found → Model.Taking Tray
@@ -117,8 +118,8 @@ isNil (b ∷ l) = false
 unfoldable pub takes : Given → Model.Taking Tray
 takes g =
     cond (leb (g .scale) 20 && leb (g .byte) 1)
-    (cond (isNil (g .a)) (Model.refuse 16) (secondOf (g .scale) (eqb (g .byte) 1) (paddedOf (regionsOf 8 (g .a))) (g .b)))
-    (Model.refuse 4)
+    (cond (isNil (g .a)) (Model.refuse form) (secondOf (g .scale) (eqb (g .byte) 1) (paddedOf (regionsOf 8 (g .a))) (g .b)))
+    (Model.refuse outOfRange)
 
 -- what the code says of it
 abbrev pub takeOf : Verdict → Tray → Model.Taking Tray
@@ -131,12 +132,12 @@ noTray = record { k = 0; all = false; b = blank .region; count = 0; targets = re
 
 -- ---- what the code meets, step by step
 module _ (g : Given) where
-  pub takes-scale : 20 < g .scale → takes g ≡ Model.refuse 4
+  pub takes-scale : 20 < g .scale → takes g ≡ Model.refuse outOfRange
   unfolding takes
   takes-scale h = rw (lt-leb (g .scale) 20 h) refl
 
   module _ (low : g .scale ≤ 20) where
-    pub takes-byte : 1 < g .byte → takes g ≡ Model.refuse 4
+    pub takes-byte : 1 < g .byte → takes g ≡ Model.refuse outOfRange
     unfolding takes
     takes-byte h = rw (le-leb (g .scale) 20 low, lt-leb (g .byte) 1 h) refl
 
@@ -149,7 +150,7 @@ module _ (g : Given) where
       some-is [] h = absurd (h refl)
       some-is (b ∷ l) h = refl
 
-      pub takes-none : length (g .a) ≡ 0 → takes g ≡ Model.refuse 16
+      pub takes-none : length (g .a) ≡ 0 → takes g ≡ Model.refuse form
       unfolding takes
       takes-none h = rw (le-leb (g .scale) 20 low, le-leb (g .byte) 1 bit, nil-is (g .a) h) refl
 

@@ -23,7 +23,7 @@ impl Refusal {
     {
         match self {
             Refusal::Record(f) => f.number(),
-            Refusal::Form => 16,
+            Refusal::Form => refusals::FORM,
         }
     }
 }

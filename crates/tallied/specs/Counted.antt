@@ -3,7 +3,7 @@
 -- Assumes nothing.
 use mathlib.Core.Path.{_≡_, refl, sym, ap, ap₂, subst, _∙_}
 use mathlib.Core.Bool.{Bool, true, false, cond}
-use mathlib.Core.List.{List, [], _∷_, _++_, append-nil, append-assoc, map}
+use mathlib.Core.List.{List, [], _∷_, _++_, append-nil, map}
 use mathlib.Core.Option.{Option}
 use mathlib.Core.Option as O
 use Prim.Native.Nat.{ℕ, suc, _+_, _*_, _^_, _≤_, _<_, min}
@@ -26,25 +26,28 @@ use Rattle.calls.specs.Session.{Reading, refuse, accept, Stage, part, whole, Ca
 use Rattle.calls.specs.Session.{refused, taken, handed, done, says, best, early, walking, joined, remembered, given, found, step}
 use Rattle.calls.specs.Session as Model
 use Rattle.calls.specs.Since.{Exchange, restarts, sinceAfter, written, points, fullOf}
+use Rattle.calls.specs.First.{points-more}
+use Rattle.points.specs.Ascending.{Passing, passing-append, rest-passing}
+use Rattle.points.specs.Slices.{pointsOf, flat-points, map-points, length-points}
 use Rattle.words.specs.declared.Size.{Size}
 use Rattle.words.specs.Meaning.{sizeOf, wrapped}
 use Rattle.tally.specs.declared.Tally.{Tally}
-use Rattle.tally.specs.Spread.{pointsOf, number, each, spread, added, nothing, sum}
+use Rattle.tally.specs.Spread.{number, each, spread, added, nothing, sum}
 use Rattle.tally.specs.Places.{places-at, places-same, number-append, number-most, AllCounted, spread-sum}
-use Rattle.tally.specs.Kept.{added-places, nothing-places, kept-same, kept-places}
+use Rattle.words.specs.Wrapped.{wrapped-same}
+use Rattle.tally.specs.Kept.{added-places, nothing-places, kept-places}
 use Rattle.stages.specs.declared.Parts.{Parts}
 use Rattle.stages.specs.World.{Best, world, turnAt, partReading, operatorReading, bestOf}
-use Rattle.stages.specs.Session.{meaning}
+use Rattle.stages.specs.Session.{meaning, scaleOf}
 use Rattle.shortest.specs.Pattern.{patternOf}
 use Rattle.record.specs.Record.{readingOf}
 use Rattle.kinds.specs.declared.Turn.the-variants as T
 use Rattle.session.specs.Run.{Made, answered, exchangesOf, sinceOf, link-steps}
 use Rattle.session.specs.RunCalls.{listOf, run-first, run-count}
 use Rattle.session.specs.RunWalk.{handedOut}
-use Rattle.session.specs.RunWalk as RunWalk
 use Rattle.tallied.specs.declared.Tallied.{Tallied}
-use Rattle.tallied.specs.Tallied.{fresh, scaleOf, tallyAfter, Passing}
-use Rattle.tallied.specs.Points.{flat-points, passing, passing-take, rest-passing, all-counted}
+use Rattle.tallied.specs.Tallied.{fresh, tallyAfter}
+use Rattle.tallied.specs.Points.{all-counted}
 use Rattle.tallied.specs.Run.{TallyLink, TallyFrom, none, then, TallyRun, session-link, session-run, link-tally}
 
 -- a hand-out's count; a refused one has none
@@ -65,7 +68,7 @@ handedSum (x ∷ xs) = countOf (x .1) + handedSum xs
 -- a session after hand-outs of the points ps, n in all, with their counts
 pub data Counted : Model.Session world → Tally → List ℤ → ℕ → Type 0 where
   soon : (p : Parts) → Counted (early p) nothing [] 0
-  along : (j : Job) (w : Place) (o : Operator) (rs : List ℕ) (t : Tally) → t .counts ≡ map wrapped (spread (j .k) (map pointOf rs)) → Passing j rs
+  along : (j : Job) (w : Place) (o : Operator) (rs : List ℕ) (t : Tally) → t .counts ≡ map wrapped (spread (j .k) (map pointOf rs)) → Passing (listedAt j) rs
       → Counted (walking j w o) t (flat numbersOf rs) (length rs)
 
 abbrev Next : Call world → Model.Session world → Model.Outcome world → Tally → List ℤ → ℕ → Type 0
@@ -84,14 +87,10 @@ joins b p (refuse r) = same (soon p)
 joins b p (accept n (part q)) = same (soon q)
 joins b p (accept n (whole j)) = same (start j identity)
 
-remembers : (b : List ℕ) (j : Job) (w : Place) (o : Operator) (rs : List ℕ) (t : Tally) → t .counts ≡ map wrapped (spread (j .k) (map pointOf rs)) → Passing j rs → (r : Reading Operator)
+remembers : (b : List ℕ) (j : Job) (w : Place) (o : Operator) (rs : List ℕ) (t : Tally) → t .counts ≡ map wrapped (spread (j .k) (map pointOf rs)) → Passing (listedAt j) rs → (r : Reading Operator)
     → Next (reading b) (walking j w o) (remembered world j w o r) t (flat numbersOf rs) (length rs)
 remembers b j w o rs t e p (refuse r) = same (along j w o rs t e p)
 remembers b j w o rs t e p (accept n g) = same (along j w g rs t e p)
-
-passing-append : (j : Job) (l m : List ℕ) → Passing j l → Passing j m → Passing j (l ++ m)
-passing-append j [] m p q = q
-passing-append j (r ∷ l) m p q = (p .0, passing-append j l m (p .1) q)
 
 -- the counts of two lists of points
 spread-append : (k : ℕ) (l m : List Point) (c : List Size) → c ≡ map wrapped (spread k l) → added (spread k m) c ≡ map wrapped (spread k (l ++ m))
@@ -99,11 +98,7 @@ spread-append k l m c e =
     ap (added (spread k m)) e ∙ added-places (λ e. number k e l) (λ e. number k e m) 21 0
     ∙ ap (map wrapped) (places-same _ _ 21 0 (λ e a b. sym (number-append k e l m)))
 
-map-points : (l m : List ℕ) → map pointOf (l ++ m) ≡ map pointOf l ++ map pointOf m
-map-points [] m = refl
-map-points (r ∷ l) m = ap (λ (t : List Point). pointOf r ∷ t) (map-points l m)
-
-gives : (j : Job) (p : ℕ) (o : Operator) (l : List ℤ) (rs : List ℕ) (t : Tally) → t .counts ≡ map wrapped (spread (j .k) (map pointOf rs)) → Passing j rs
+gives : (j : Job) (p : ℕ) (o : Operator) (l : List ℤ) (rs : List ℕ) (t : Tally) → t .counts ≡ map wrapped (spread (j .k) (map pointOf rs)) → Passing (listedAt j) rs
     → Next (handOut l) (walking j (at p) o) (given world j o l (rest (listedAt j) (top span) p)) t (flat numbersOf rs) (length rs)
 gives j p o l rs t e h =
     let n = Model.space world l in
@@ -113,7 +108,7 @@ gives j p o l rs t e h =
     let all : flat numbersOf rs ++ flat numbersOf qs ≡ flat numbersOf (rs ++ qs) = sym (flat-append numbersOf rs qs) in
     let more = spread-append (j .k) (map pointOf rs) (map pointOf qs) (t .counts) e ∙ ap (λ (v : List Point). map wrapped (spread (j .k) v)) (sym (map-points rs qs)) in
     let long : length rs + length qs ≡ length (rs ++ qs) = sym (length-append rs qs) in
-    rw (back, flat-points qs, all, long) (along j _ o (rs ++ qs) (record { counts = added (spread (j .k) (map pointOf qs)) (t .counts) }) more (passing-append j rs qs h (rest-passing j n p)))
+    rw (back, flat-points qs, all, long) (along j _ o (rs ++ qs) (record { counts = added (spread (j .k) (map pointOf qs)) (t .counts) }) more (passing-append (listedAt j) rs qs h (rest-passing (listedAt j) n (top span) p)))
 
 finds : (x : Option Best) {m : Model.Session world} {t : Tally} {ps : List ℤ} {n : ℕ} → Counted m t ps n → Counted m t (ps ++ written world (found world x)) (n + countOf (found world x))
 finds O.none f = same f
@@ -136,10 +131,6 @@ goes (imageOf v) (along j w o rs t e h) = same (along j w o rs t e h)
 goes shortest (along j w o rs t e h) = finds (bestOf (patternOf j)) (along j w o rs t e h)
 
 -- ---- a run
-points-more : (xs : List (Exchange world)) (x : Exchange world) → points world (xs ++ (x ∷ [])) ≡ points world xs ++ written world (x .1)
-points-more [] x = append-nil (written world (x .1))
-points-more (y ∷ xs) x = rw (points-more xs x) (sym (append-assoc (written world (y .1)) (points world xs) (written world (x .1))))
-
 sum-more : (xs : List (Exchange world)) (x : Exchange world) → handedSum (xs ++ (x ∷ [])) ≡ handedSum xs + countOf (x .1)
 sum-more [] x = omega arith
 sum-more (y ∷ xs) x = omega (arith, sum-more xs x)
@@ -151,7 +142,7 @@ adds : (r : Bool) (seen : List (Exchange world)) (x : Exchange world) {m : Model
     → Counted m t (cond r [] (points world seen ++ written world (x .1))) (cond r 0 (handedSum seen + countOf (x .1)))
     → Counted m t (points world (cond r [] (seen ++ (x ∷ [])))) (handedSum (cond r [] (seen ++ (x ∷ []))))
 adds true seen x f = f
-adds false seen x f = rw (points-more seen x, sum-more seen x) f
+adds false seen x f = rw (points-more world seen x, sum-more seen x) f
 
 link-stands : {b d : Tallied} {m : Made} (seen : List (Exchange world)) → TallyLink b m d → Stands b seen
     → Stands d (cond (restarts world (m .call) (answered m)) [] (seen ++ ((m .call, answered m) ∷ [])))
@@ -179,7 +170,7 @@ module _ (f : ℕ → ℕ) (e : ℕ) (h : e < 21) where
   at-place = let z : 0 + e ≡ e = omega arith in List·getD-map wrapped (each f) e 0 ∙ ap wrapped (places-at f 21 0 e h ∙ ap f z)
 
   size-place : f e < 2 ^ 128 → sizeOf (getD (map wrapped (each f)) e zero) ≡ f e
-  size-place k = ap sizeOf at-place ∙ kept-same (f e) k
+  size-place k = ap sizeOf at-place ∙ wrapped-same (f e) k
 
 abbrev Each : ℕ → Tally → List Point → Type 0
 Each k t ps = (e : ℕ) → e < 21 → sizeOf (getD (t .counts) e zero) ≡ number k e ps
@@ -194,10 +185,6 @@ module _ (k : ℕ) (ps : List Point) (t : Tally) (is : t .counts ≡ map wrapped
   sum-told : AllCounted k ps → sum (map sizeOf (t .counts)) ≡ length ps
   sum-told all =
       ap (λ (c : List Size). sum (map sizeOf c)) is ∙ ap sum (kept-places (λ j. number k j ps) 21 0 (λ e. below (number-most k e ps) few)) ∙ spread-sum k ps all
-
-length-points : (l : List ℕ) → length (map pointOf l) ≡ length l
-length-points [] = refl
-length-points (r ∷ l) = ap suc (length-points l)
 
 none-counted : (k : ℕ) → nothing .counts ≡ map wrapped (spread k [])
 unfolding number
@@ -221,13 +208,6 @@ list-fewer (walking j w o) = full-fewer j
 fewer : (n k l t : ℕ) → 4 * n ≡ 4 * min k l → l < t → n < t
 fewer n k l t e h = let m = min-le-right k l in omega arith
 
-same-points : (l : List ℤ) → pointsOf l ≡ RunWalk.pointsOf l
-same-points [] = refl
-same-points (a ∷ []) = refl
-same-points (a ∷ b ∷ []) = refl
-same-points (a ∷ b ∷ c ∷ []) = refl
-same-points (a ∷ b ∷ c ∷ d ∷ l) = ap (λ (t : List Point). record { a = a; b = b; c = c; d = d } ∷ t) (same-points l)
-
 pub record Tally-told (ms : List Made) (b : Tallied) : Type 0 where
   -- each count is the number of the points handed out since the last rewind or clearing that have its exponent
   pub each : (e : ℕ) → e < 21 → sizeOf (getD (b .tally .counts) e zero) ≡ number (scaleOf (meaning (b .session))) e (handedOut ms)
@@ -240,4 +220,4 @@ run-tallied {ms} {b} r =
     let f = run-stands r in
     let few = fewer _ _ _ _ (sym (counted-length f) ∙ run-count (session-run r)) (list-fewer (meaning (b .session))) in
     let t = told f few in
-    record { each = rw (same-points (points world (sinceOf ms))) at (t .0); together = t .1 }
+    record { each = t .0; together = t .1 }

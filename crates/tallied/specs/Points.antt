@@ -2,8 +2,8 @@
 -- Assumes nothing.
 use mathlib.Core.Path.{_≡_, refl, sym, ap, ap₂, _∙_}
 use mathlib.Core.Bool.{Bool, true, false, _||_, false≢true}
-use mathlib.Core.List.{List, [], _∷_, _++_, map, List·Memᴰ, List·Memᴰ·head, List·Memᴰ·tail}
-use Prim.Native.Nat.{ℕ, zero, suc, _+_, _*_, _/_, _≤_, _<_}
+use mathlib.Core.List.{List, [], _∷_, map}
+use Prim.Native.Nat.{ℕ, _*_, _/_, _≤_, _<_}
 use native.Mathlib.Nat.{min-le-left}
 use native.Mathlib.Omega.{arith}
 use lib.Dec.{eqb}
@@ -18,34 +18,18 @@ use Rattle.region.specs.Membership.{solves-true}
 use Rattle.region.specs.Selection.{isNew, listed-parts, exponent-most}
 use Rattle.ranks.specs.Rest.{at, ended, isNil, rest}
 use Rattle.ranks.specs.Rank.{top}
-use Rattle.ranks.specs.Members.{rest-sound}
-use Rattle.ranks.specs.Handed.{flat, put, take-put}
+use Rattle.points.specs.Ascending.{Passing, rest-passing}
+use Rattle.points.specs.Slices.{pointsOf, flat-points, length-points}
+use Rattle.ranks.specs.Handed.{put, take-put}
 use Rattle.cuts.specs.Digits.{span}
 use Rattle.lists.specs.Walk.{pointOf, listedAt, numbersOf}
 use Rattle.calls.specs.Session.{handOut, refused, taken, handed, done, says, best, early, walking, step}
 use Rattle.calls.specs.Session as Model
-use Rattle.tally.specs.Spread.{pointsOf, spread, alone}
+use Rattle.tally.specs.Spread.{spread, alone}
 use Rattle.tally.specs.Places.{AllNew, AllCounted, new-spread}
 use Rattle.stages.specs.declared.Answer.the-variants as A
 use Rattle.stages.specs.World.{world}
-use Rattle.tallied.specs.Tallied.{Passing, DealtBy, Dealt, Handing}
-
--- ---- ranks and their points
-pub flat-points : (l : List ℕ) → pointsOf (flat numbersOf l) ≡ map pointOf l
-flat-points [] = refl
-flat-points (r ∷ l) = ap (λ (t : List Point). pointOf r ∷ t) (flat-points l)
-
-pub passing : (j : Job) (l : List ℕ) → ((r : ℕ) → List·Memᴰ r l → listedAt j r ≡ true) → Passing j l
-passing j [] h = tt
-passing j (r ∷ l) h = (h r (List·Memᴰ·head refl), passing j l (λ q m. h q (List·Memᴰ·tail m)))
-
-pub passing-take : (j : Job) (n : ℕ) (l : List ℕ) → Passing j l → Passing j (take n l)
-passing-take j zero l h = tt
-passing-take j (suc n) [] h = tt
-passing-take j (suc n) (r ∷ l) h = (h .0, passing-take j n l (h .1))
-
-pub rest-passing : (j : Job) (n p : ℕ) → Passing j (take n (rest (listedAt j) (top span) p))
-rest-passing j n p = passing-take j n _ (passing j _ (λ r m. rest-sound (listedAt j) (top span) p r m .2))
+use Rattle.tallied.specs.Tallied.{DealtBy, Dealt, Handing}
 
 -- ---- what a hand-out wrote
 isHanded : Model.Answer world → Bool
@@ -79,7 +63,7 @@ dealt-at new old n e (walking j (at p) o) same h =
       count = count;
       room = fourth n (length old) (length new) few same;
       numbers = ap₂ (λ (i : ℕ) (l : List ℤ). take (4 * i) l) count slice ∙ take-put numbersOf 4 (λ r. refl) ps old;
-      passing = rest-passing j k p;
+      passing = rest-passing (listedAt j) k (top span) p;
     }
 
 pub handed-dealt : (m : Model.Session world) (new : List ℤ) (n : ℕ) (e : Bool) → Handing m new (A.Handed n e) → Dealt m new n
@@ -91,27 +75,23 @@ module _ (j : Job) where
   either true c h e = absurd (false≢true (sym e))
   either false c h e = h
 
-  pub all-new : j .all ≡ false → (l : List ℕ) → Passing j l → AllNew (j .k) (map pointOf l)
+  pub all-new : j .all ≡ false → (l : List ℕ) → Passing (listedAt j) l → AllNew (j .k) (map pointOf l)
   unfolding isNew
   all-new e [] h = tt
   all-new e (r ∷ l) h =
       let s = listed-parts j (pointOf r) (h .0) .0 in
       (eqb-true _ _ (either (j .all) (isNew (j .k) (pointOf r)) s e), all-new e l (h .1))
 
-  pub all-counted : (l : List ℕ) → Passing j l → AllCounted (j .k) (map pointOf l)
+  pub all-counted : (l : List ℕ) → Passing (listedAt j) l → AllCounted (j .k) (map pointOf l)
   all-counted [] h = tt
   all-counted (r ∷ l) h =
       let s = solves-true j (pointOf r) (listed-parts j (pointOf r) (h .0) .1) .scale in
       let m = exponent-most (j .k) (pointOf r) in
       (omega arith, all-counted l (h .1))
 
-length-map : (l : List ℕ) → length (map pointOf l) ≡ length l
-length-map [] = refl
-length-map (r ∷ l) = ap suc (length-map l)
-
 -- the counts of n points that are all new
 pub new-counts : (j : Job) (new : List ℤ) (n : ℕ) → j .all ≡ false → DealtBy j new n → alone n (j .k) ≡ spread (j .k) (pointsOf (take (4 * n) new))
 new-counts j new n e d =
     let ps = map pointOf (d .ranks) in
-    ap (λ (i : ℕ). alone i (j .k)) (d .count ∙ sym (length-map (d .ranks))) ∙ sym (new-spread (j .k) ps (all-new j e (d .ranks) (d .passing)))
+    ap (λ (i : ℕ). alone i (j .k)) (d .count ∙ sym (length-points (d .ranks))) ∙ sym (new-spread (j .k) ps (all-new j e (d .ranks) (d .passing)))
     ∙ ap (spread (j .k)) (sym (ap pointsOf (d .numbers) ∙ flat-points (d .ranks)))

@@ -13,20 +13,17 @@ use Rattle.lists.specs.Walk.{numbersOf, listedAt}
 use Rattle.calls.specs.Session.{Call, reading, handOut, rewind, clear, plain, imageOf, shortest, refused, taken, handed, done, says, best, early, walking, step, isRefused}
 use Rattle.calls.specs.Session as Model
 use Rattle.tally.specs.declared.Tally.{Tally}
-use Rattle.tally.specs.Spread.{pointsOf, spread, added, nothing}
+use Rattle.points.specs.Ascending.{Passing}
+use Rattle.points.specs.Slices.{pointsOf}
+use Rattle.tally.specs.Spread.{spread, added, nothing}
 use Rattle.stages.specs.declared.Answer.{Answer}
 use Rattle.stages.specs.World.{world}
-use Rattle.stages.specs.Session.{meaning, answerOf, Steps, Hands}
+use Rattle.stages.specs.Session.{meaning, answerOf, scaleOf, Steps, Hands}
 use Rattle.stages.specs.Session as S
 use Rattle.tallied.specs.declared.Tallied.{Tallied}
 
 abbrev pub fresh : Tallied
 fresh = record { session = S.fresh; tally = nothing }
-
--- the scale of a whole job
-abbrev pub scaleOf : Model.Session world → ℕ
-scaleOf (early p) = 0
-scaleOf (walking j w o) = j .k
 
 -- the points of these numbers are counted, each by its exponent
 abbrev pub raised : ℕ → List ℤ → Tally → Tally
@@ -62,17 +59,13 @@ pub record Deals (b : Tallied) (old new : List ℤ) (d : Tallied) (a : Answer) :
   pub tally : d .tally ≡ tallyAfter (handOut old) (answerOf new a) (scaleOf (meaning (b .session))) (b .tally)
 
 -- ---- what a hand-out writes
-abbrev pub Passing : Job → List ℕ → Type 0
-Passing j [] = Unit {0}
-Passing j (r ∷ l) = (listedAt j r ≡ true) × Passing j l
-
 -- the first n points of the slice are listed by the job
 pub record DealtBy (j : Job) (new : List ℤ) (n : ℕ) : Type 0 where
   pub ranks : List ℕ
   pub count : n ≡ length ranks
   pub room : 4 * n ≤ length new
   pub numbers : take (4 * n) new ≡ flat numbersOf ranks
-  pub passing : Passing j ranks
+  pub passing : Passing (listedAt j) ranks
 
 abbrev pub Dealt : Model.Session world → List ℤ → ℕ → Type 0
 Dealt (early p) new n = ⊥

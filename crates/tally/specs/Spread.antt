@@ -1,27 +1,14 @@
 -- How points spread over the exponents from 0 to 20: SPEC, "Tally".
 use mathlib.Core.Bool.{Bool, true, false, cond}
 use mathlib.Core.List.{List, [], _∷_}
-use Prim.Native.Nat.{ℕ, zero, suc, _+_, _*_}
+use Prim.Native.Nat.{ℕ, zero, suc, _+_}
 use lib.Dec.{eqb}
-use lib.IntN.{ℤ, pos}
-use lib.ListN.{getD, replicate}
+use lib.ListN.{replicate}
 use Rattle.ring.specs.declared.Point.{Point}
 use Rattle.ring.specs.Point.Exponent.{exponentOf}
 use Rattle.words.specs.declared.Size.{Size}
 use Rattle.words.specs.Meaning.{sizeOf, wrapped}
 use Rattle.tally.specs.declared.Tally.{Tally}
-
--- numbers read as points, four for each
-abbrev pub pointsOf : List ℤ → List Point
-pointsOf [] = []
-pointsOf (a ∷ []) = []
-pointsOf (a ∷ b ∷ []) = []
-pointsOf (a ∷ b ∷ c ∷ []) = []
-pointsOf (a ∷ b ∷ c ∷ d ∷ l) = record { a = a; b = b; c = c; d = d } ∷ pointsOf l
-
--- the point number i of them
-unfoldable pub pointAt : List ℤ → ℕ → Point
-pointAt l i = record { a = getD l (4 * i) (pos 0); b = getD l (4 * i + 1) (pos 0); c = getD l (4 * i + 2) (pos 0); d = getD l (4 * i + 3) (pos 0) }
 
 abbrev pub one : Bool → ℕ
 one true = 1

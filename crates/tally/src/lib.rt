@@ -1,9 +1,9 @@
 // How the points that were handed out spread over the exponents: SPEC, "Tally".
 ghost use mathlib.Core.Path.{_≡_};
-ghost use Prim.Native.Nat.{_+_, _*_, _≤_};
+ghost use Prim.Native.Nat.{_*_, _≤_};
 ghost use lib.ListN.{length, take};
-ghost use Rattle.tally.specs.Spread.{pointAt, pointsOf, spread, alone, added, nothing};
-use ring::Point;
+ghost use Rattle.points.specs.Slices.{pointsOf};
+ghost use Rattle.tally.specs.Spread.{spread, alone, added, nothing};
 use words::Size;
 
 // A count of two words for each exponent from 0 to 20.
@@ -44,7 +44,7 @@ pub fn spread_of(points: &[i32], n: usize, k: u8) -> [u64; 21]
     let mut counts = [0u64; 21];
     let mut i = 0;
     while i < n {
-        let v = point_at(points, i);
+        let v = points::point_at(points, i);
         let e = v.exponent(k) as usize;
         if e < 21 {
             counts[e] += 1;
@@ -64,17 +64,4 @@ pub fn all_new(n: usize, k: u8) -> [u64; 21]
         counts[e] = n as u64;
     }
     counts
-}
-
-// The point number i of a slice.
-fn point_at(points: &[i32], i: usize) -> Point
-    requires { ⌜ 4 * i + 4 ≤ length (now points) ⌝ }
-    ensures { λ r. ⌜ r ≡ pointAt (now (points .entry)) i ⌝ }
-{
-    Point {
-        a: points[4 * i],
-        b: points[4 * i + 1],
-        c: points[4 * i + 2],
-        d: points[4 * i + 3],
-    }
 }

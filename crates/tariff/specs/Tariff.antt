@@ -4,6 +4,7 @@ use mathlib.Core.List.{List, [], _∷_}
 use Prim.Native.Nat.{ℕ, _+_, _/_}
 use lib.Dec.{leb}
 use lib.ListN.{length}
+use Rattle.refusals.specs.Refusals.{outOfRange, notALetter, notATray}
 use Rattle.alphabet.specs.Letters.{Letter, H, S, T, W, lettersOf, areLetters}
 use Rattle.tariff.specs.declared.Tariff.{Tariff}
 use Rattle.tariff.specs.declared.Refusal.{Refusal}
@@ -15,9 +16,9 @@ use Rattle.tariff.specs.declared.price.Ticks.the-variants.{Sum, Refused}
 
 -- "4 for a price out of range or a word above 65,536 letters, then 15 for a byte that isn't one of the four letters"; 18 of Ticket 13
 abbrev pub numberOf : Refusal → ℕ
-numberOf OutOfRange = 4
-numberOf NotALetter = 15
-numberOf NotATray = 18
+numberOf OutOfRange = outOfRange
+numberOf NotALetter = notALetter
+numberOf NotATray = notATray
 
 -- "Each letter has a price in thousandths of a tick, 0 to 1,000,000"
 abbrev pub topPrice : ℕ

@@ -36,9 +36,9 @@ impl Refusal {
         ensures { λ r. ⌜ r ≡ numberOf self ⌝ }
     {
         match self {
-            Refusal::OutOfRange => 4,
-            Refusal::NotALetter => 15,
-            Refusal::NotATray => 18,
+            Refusal::OutOfRange => refusals::OUT_OF_RANGE,
+            Refusal::NotALetter => refusals::NOT_A_LETTER,
+            Refusal::NotATray => refusals::NOT_A_TRAY,
         }
     }
 }

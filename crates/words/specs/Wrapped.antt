@@ -1,8 +1,9 @@
--- A sum of two words and one, with its carry.
-use mathlib.Core.Path.{_≡_, refl}
-use Prim.Native.Nat.{ℕ, _+_, _*_, _/_, _%_, _≤_, _<_}
-use native.Mathlib.Nat.{mul-add-div-right, mul-add-mod-self-right, mod-eq-of-lt}
+-- A sum of two words and one, with its carry; numbers below 2^128 are kept, and what passes it is dropped once for all.
+use mathlib.Core.Path.{_≡_, refl, sym, ap, _∙_}
+use Prim.Native.Nat.{ℕ, _+_, _*_, _/_, _%_, _^_, _≤_, _<_}
+use native.Mathlib.Nat.{mul-add-div-right, mul-add-mod-self-right, mod-eq-of-lt, div-lt-iff-lt-mul, div-add-mod'}
 use native.Mathlib.Omega.{arith}
+use lib.Dec.{lit≤}
 use Rattle.words.specs.declared.Size.{Size}
 use Rattle.words.specs.Meaning.{word, sizeOf, wrapped}
 
@@ -34,3 +35,42 @@ module _ (w : Size) (n : ℕ) (fits : w .lo < word) (small : n < word) where
   plus-plain g h =
       let none : w .hi + (w .lo + n) / word ≡ w .hi = omega arith in
       rw (lower word (w .hi) (w .lo) n (omega arith), upper word (w .hi) (w .lo) n (omega arith), none, mod-eq-of-lt g) refl
+
+-- ---- a number kept in two words, and raised
+module _ (B : ℕ) (some : 0 < B) where
+  dropped-lower : (p x : ℕ) → (p * B * B + x) % B ≡ x % B
+  dropped-lower p x = mul-add-mod-self-right (p * B) B x
+
+  dropped-upper : (p x : ℕ) → (p * B * B + x) / B % B ≡ x / B % B
+  dropped-upper p x = rw (mul-add-div-right some (p * B) x) (mul-add-mod-self-right p B (x / B))
+
+  apart : (a : ℕ) → a ≡ a / B / B * B * B + (a / B % B * B + a % B)
+  apart a = go (a / B) (a / B / B) (a / B % B) (a % B) (div-add-mod' a B) (div-add-mod' (a / B) B)
+    where
+      go : (q p r s : ℕ) → q * B + s ≡ a → p * B + r ≡ q → a ≡ p * B * B + (r * B + s)
+      go q p r s e f = sym e ∙ rw (← f) (omega arith)
+
+  kept-lower : (a n : ℕ) → (a / B % B * B + a % B + n) % B ≡ (a + n) % B
+  kept-lower a n =
+      let p = a / B / B in
+      let x = a / B % B * B + a % B in
+      let e : p * B * B + (x + n) ≡ a + n = omega (arith, apart a) in
+      sym (dropped-lower p (x + n)) ∙ ap (λ (m : ℕ). m % B) e
+
+  kept-upper : (a n : ℕ) → (a / B % B * B + a % B + n) / B % B ≡ (a + n) / B % B
+  kept-upper a n =
+      let p = a / B / B in
+      let x = a / B % B * B + a % B in
+      let e : p * B * B + (x + n) ≡ a + n = omega (arith, apart a) in
+      sym (dropped-upper p (x + n)) ∙ ap (λ (m : ℕ). m / B % B) e
+
+  two-words : (n : ℕ) → n < B * B → n / B % B * B + n % B ≡ n
+  two-words n k = rw (mod-eq-of-lt (div-lt-iff-lt-mul some .1 k)) (div-add-mod' n B)
+
+pub wrapped-more : (a n : ℕ) → wrapped (sizeOf (wrapped a) + n) ≡ wrapped (a + n)
+unfolding sizeOf wrapped
+wrapped-more a n = λ i. record { hi = kept-upper word (lit≤ tt) a n i; lo = kept-lower word (lit≤ tt) a n i }
+
+pub wrapped-same : (n : ℕ) → n < 2 ^ 128 → sizeOf (wrapped n) ≡ n
+unfolding sizeOf wrapped
+wrapped-same n h = two-words (2 ^ 64) (lit≤ tt) n h

@@ -15,7 +15,7 @@ leaving-requires : tie.Need-leaving-requires
 leaving-requires c κs = search needs
 
 returns : tie.Need-returns
-returns c = left-is (c .leaving .ensures) [] ∙ c .before .clear .ensures
+returns c = left-is (c .leaving .ensures) [] ∙ c .before .clear .ensures .met
 
 pub bowujita-clear-spec : {M : Type 1} → statement M
 bowujita-clear-spec =

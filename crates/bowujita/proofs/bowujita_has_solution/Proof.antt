@@ -13,7 +13,7 @@ reply-of-requires : tie.Need-reply-of-requires
 reply-of-requires c κs = search needs
 
 returns : tie.Need-returns
-returns c = rw (c .reply-of .ensures []) (rw (c .before .before .session-of .ensures) at (c .before .has-solution .ensures))
+returns c = rw (c .reply-of .ensures []) (rw (c .before .before .session-of .ensures) at (c .before .has-solution .ensures .met))
 
 pub bowujita-has-solution-spec : {M : Type 1} → statement M
 bowujita-has-solution-spec =

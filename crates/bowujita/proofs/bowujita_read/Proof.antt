@@ -15,7 +15,7 @@ leaving-requires : tie.Need-leaving-requires
 leaving-requires c κs = search needs
 
 returns : tie.Need-returns
-returns c = left-is (c .leaving .ensures) [] ∙ rw (c .before .before .session-of .ensures) at (c .before .read .ensures)
+returns c = left-is (c .leaving .ensures) [] ∙ rw (c .before .before .session-of .ensures) at (c .before .read .ensures .met)
 
 pub bowujita-read-spec : {M : Type 1} → statement M
 bowujita-read-spec =

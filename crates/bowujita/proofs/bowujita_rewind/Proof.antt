@@ -15,7 +15,7 @@ leaving-requires : tie.Need-leaving-requires
 leaving-requires c κs = search needs
 
 returns : tie.Need-returns
-returns c = left-is (c .leaving .ensures) [] ∙ rw (c .before .before .session-of .ensures) at (c .before .rewind .ensures)
+returns c = left-is (c .leaving .ensures) [] ∙ rw (c .before .before .session-of .ensures) at (c .before .rewind .ensures .met)
 
 pub bowujita-rewind-spec : {M : Type 1} → statement M
 bowujita-rewind-spec =

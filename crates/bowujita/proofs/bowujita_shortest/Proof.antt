@@ -13,7 +13,7 @@ reply-of-requires : tie.Need-reply-of-requires
 reply-of-requires c κs = search needs
 
 returns : tie.Need-returns
-returns c = rw (c .reply-of .ensures []) (rw (c .before .before .session-of .ensures) at (c .before .shortest .ensures))
+returns c = rw (c .reply-of .ensures []) (rw (c .before .before .session-of .ensures) at (c .before .shortest .ensures .met))
 
 pub bowujita-shortest-spec : {M : Type 1} → statement M
 bowujita-shortest-spec =

@@ -29,6 +29,9 @@ part-list-one-end c = search needs
 list-one-requires : tie.Need-list-one-requires Inv-loop μ-loop
 list-one-requires c κs = search needs
 
+returns : tie.Need-returns Inv-loop μ-loop
+returns c = search needs
+
 add-n : tie.Need-add-n Inv-loop μ-loop
 add-n c = search needs
 
@@ -38,8 +41,8 @@ loop-less c = search needs
 loop-again : tie.Need-loop-again Inv-loop μ-loop
 loop-again c = search needs
 
-returns : tie.Need-returns Inv-loop μ-loop
-returns c = search needs
+returns-2 : tie.Need-returns-2 Inv-loop μ-loop
+returns-2 c = search needs
 
 pub list-all-spec : {M : Type 1} → statement M
 list-all-spec =
@@ -53,7 +56,8 @@ list-all-spec =
     part-list-one-start
     part-list-one-end
     list-one-requires
+    returns
     add-n
     loop-less
     loop-again
-    returns)
+    returns-2)

@@ -1,18 +1,23 @@
--- `print_from` ends: each turn leaves less to do. The invariant: the slice keeps its length, and the places are within it. Assumes nothing.
+-- `print_from` meets its contract: its pieces are a run. It ends since each piece leaves less to come. Assumes nothing.
 use mathlib.Core.Path.{_≡_, sym, _∙_}
+use mathlib.Core.List.{[]}
 use native.Mathlib.Omega.{arith}
+use borrow.Author.Tests.{not-true, not-false}
 use lib.ListN.{length}
-use Rattle.sending.specs.Sending.{Within}
-use Rattle.sending.specs.Ends.{weight, turn-less, turn-within, turn-length}
+use lib.Seq.{length-take-le}
+use Rattle.text.specs.Append.{appended-within}
+use Rattle.output.specs.Pieces.{stateOf, most}
+use Rattle.output.specs.Joined.{piece-less}
+use Rattle.printing.specs.Printed.{begun, Going, go-on, stop}
 use borrow.Author.Needs.{needs}
 use Rattle.printing.proofs.print_from.Statement.{statement}
 use Rattle.printing.proofs.print_from.Tie as tie
 
 abbrev Inv-loop : tie.InvT-loop
-Inv-loop fd out₀ s₀ t6 out s = (length out ≡ 131072) × Within s out
+Inv-loop out₀ o₀ out o = (length out ≡ 131072) × Going o₀ o
 
 abbrev μ-loop : tie.MeasureT-loop
-μ-loop fd out₀ s₀ t6 out s = weight s
+μ-loop out₀ o₀ out o = most (stateOf o)
 
 output-buffer-requires : tie.Need-output-buffer-requires Inv-loop μ-loop
 output-buffer-requires c κs = search needs
@@ -20,44 +25,51 @@ output-buffer-requires c κs = search needs
 slice-aggregate-out : tie.Need-slice-aggregate-out Inv-loop μ-loop
 slice-aggregate-out c = search needs
 
-begin-requires : tie.Need-begin-requires Inv-loop μ-loop
-begin-requires c κs = search needs
-
 loop-holds : tie.Need-loop-holds Inv-loop μ-loop
-loop-holds c =
-    let n = sym (c .before .before .output-buffer .ensures) in
-    (n, rw (c .begin .ensures) (record { order = omega arith; room = omega arith; calm = omega arith }))
+loop-holds c = (sym (c .before .output-buffer .ensures), record { taken = []; run = begun })
 
-is-open-requires : tie.Need-is-open-requires Inv-loop μ-loop
-is-open-requires c κs = search needs
+is-done-requires : tie.Need-is-done-requires Inv-loop μ-loop
+is-done-requires c κs = search needs
 
-turn-requires : tie.Need-turn-requires Inv-loop μ-loop
-turn-requires c κs = c .before .before .before .loop .inv .1
+next-requires : tie.Need-next-requires Inv-loop μ-loop
+next-requires c κs = search needs
+
+slice-reshare-prefix-print : tie.Need-slice-reshare-prefix-print Inv-loop μ-loop
+slice-reshare-prefix-print c = appended-within _ _ _ _ (c .before .before .next .ensures .text)
+
+slice-aggregate-print : tie.Need-slice-aggregate-print Inv-loop μ-loop
+slice-aggregate-print c = sym (length-take-le _ _ (appended-within _ _ _ _ (c .before .before .before .next .ensures .text)))
+
+print-requires : tie.Need-print-requires Inv-loop μ-loop
+print-requires c κs = search needs
+
+returns : tie.Need-returns Inv-loop μ-loop
+returns c =
+    let k = c .before .before in
+    let n = k .before .before .before .before in
+    stop (n .before .before .before .before .loop .inv .1) (n .next .ensures) (k .print .ensures) (not-true _ (c .before .if2 .taken))
 
 loop-less : tie.Need-loop-less Inv-loop μ-loop
 loop-less c =
-    let k = c .before .before in
-    let t = k .before .before in
+    let n = c .before .before .before .before .before in
+    let t = n .before .before in
     let l = t .before .before in
-    turn-less (l .loop .inv .0) (l .loop .inv .1) (sym (t .before .is-open .ensures) ∙ t .if1 .taken) (k .turn .ensures)
+    let d = not-true _ (t .if1 .taken) in
+    let e = sym (t .before .is-done .ensures) ∙ d in
+    let h = l .loop .inv .0 in
+    rw (n .next .ensures .next) (piece-less (length (l .loop .out)) (stateOf (l .loop .o)) (omega arith) e)
 
 loop-again : tie.Need-loop-again Inv-loop μ-loop
 loop-again c =
-    let k = c .before .before in
-    let l = k .before .before .before .before in
-    (turn-length (k .turn .ensures) ∙ l .loop .inv .0, turn-within (l .loop .inv .1) (k .turn .ensures))
-
-slice-aggregate-fail : tie.Need-slice-aggregate-fail Inv-loop μ-loop
-slice-aggregate-fail c = search needs
-
-fail-requires : tie.Need-fail-requires Inv-loop μ-loop
-fail-requires c κs = search needs
-
-returns : tie.Need-returns Inv-loop μ-loop
-returns c = search needs
+    let n = c .before .before .before .before .before in
+    let l = n .before .before .before .before in
+    (n .next .ensures .text .same ∙ l .loop .inv .0, go-on (l .loop .inv .1) (n .next .ensures) (c .before .print .ensures) (not-false _ (c .if2 .left)))
 
 returns-2 : tie.Need-returns-2 Inv-loop μ-loop
-returns-2 c = search needs
+returns-2 c =
+    let d = c .before .before in
+    let g = d .before .loop .inv .1 in
+    record { taken = g .taken; last = d .before .loop .o; run = g .run; over = λ e. sym (d .is-done .ensures) ∙ not-false _ (c .before .if1 .left) }
 
 pub print-from-spec : {M : Type 1} → statement M
 print-from-spec =
@@ -67,13 +79,13 @@ print-from-spec =
     μ-loop
     output-buffer-requires
     slice-aggregate-out
-    begin-requires
     loop-holds
-    is-open-requires
-    turn-requires
+    is-done-requires
+    next-requires
+    slice-reshare-prefix-print
+    slice-aggregate-print
+    print-requires
+    returns
     loop-less
     loop-again
-    slice-aggregate-fail
-    fail-requires
-    returns
     returns-2)

@@ -10,24 +10,23 @@ use Rattle.qasm.proofs.write.Tie as tie
 are-letters-requires : tie.Need-are-letters-requires
 are-letters-requires c κs = search needs
 
-returns : tie.Need-returns
-returns c =
-    let s = c .before .before .before .before in
-    write-none (s .args .word .now) (s .args .text .now) (sym (c .before .are-letters .ensures) ∙ not-true _ (c .if1 .taken))
-
 lines-of-requires : tie.Need-lines-of-requires
 lines-of-requires c κs = search needs
 
+returns : tie.Need-returns
+returns c =
+    let s = c .before .before .before .before .before in
+    write-none (s .args .word .now) (s .args .text .now) (sym (c .before .before .are-letters .ensures) ∙ not-true _ (c .if1 .taken))
+
 -- past the first test the word is letters
-good : (c : tie.Else1) → areLetters (c .before .before .before .before .args .word .now) ≡ true
-good c = sym (c .before .are-letters .ensures) ∙ not-false _ (c .if1 .left)
+good : (c : tie.Else1) → areLetters (c .before .before .before .before .before .args .word .now) ≡ true
+good c = sym (c .before .before .are-letters .ensures) ∙ not-false _ (c .if1 .left)
 
 returns-2 : tie.Need-returns-2
 returns-2 c =
-    let n = c .before in
-    let e = n .before in
-    let s = e .before .before .before .before in
-    write-full (s .args .word .now) (s .args .text .now) (good e) (n .lines-of .result) (n .lines-of .ensures) (c .if2 .taken)
+    let n = c .before .before in
+    let s = c .before .before .before .before .before .before in
+    write-full (s .args .word .now) (s .args .text .now) (good (c .before)) (n .lines-of .result) (n .lines-of .ensures) (c .if2 .taken)
 
 put-lines-requires : tie.Need-put-lines-requires
 put-lines-requires c κs = search needs
@@ -42,17 +41,17 @@ returns-3 : tie.Need-returns-3
 returns-3 c =
     let p = c .before .before in
     let e = p .before .before in
-    let n = e .before in
-    let s = n .before .before .before .before .before in
-    write-done (s .args .word .now) (s .args .text .now) (good (n .before)) (n .lines-of .result) (n .lines-of .ensures) (e .if2 .left) (p .put-lines .ensures)
+    let n = e .before .before in
+    let s = e .before .before .before .before .before .before in
+    write-done (s .args .word .now) (s .args .text .now) (good (e .before)) (n .lines-of .result) (n .lines-of .ensures) (e .if2 .left) (p .put-lines .ensures)
 
 pub write-spec : {M : Type 1} → statement M
 write-spec =
     tie.close
     (tie.spec
     are-letters-requires
-    returns
     lines-of-requires
+    returns
     returns-2
     put-lines-requires
     mul-t7

@@ -6,8 +6,8 @@ use Rattle.session.proofs.hand_out.Tie as tie
 enum-told : tie.Need-enum-told
 enum-told c = search needs
 
-refused-requires : tie.Need-refused-requires
-refused-requires c κs = search needs
+no-job-requires : tie.Need-no-job-requires
+no-job-requires c κs = search needs
 
 enum-known-g : tie.Need-enum-known-g
 enum-known-g c = search needs
@@ -16,7 +16,7 @@ from-course-requires : tie.Need-from-course-requires
 from-course-requires c κs = search needs
 
 returns : tie.Need-returns
-returns c = rw (c .refused .ensures .0, c .refused .ensures .1, c .before .enum-told .given .1) (record { met = refl; slice = refl })
+returns c = rw (c .no-job .ensures .0, c .no-job .ensures .1, c .before .enum-told .given .1) (record { met = refl; values = refl; slice = refl })
 
 same-length : tie.Need-same-length
 same-length c = search needs
@@ -29,7 +29,7 @@ hand-out-spec =
     tie.close
     (tie.spec
     enum-told
-    refused-requires
+    no-job-requires
     enum-known-g
     from-course-requires
     returns

@@ -1,4 +1,5 @@
 use mathlib.Core.Path.{refl}
+use Rattle.stages.specs.Session.{steps}
 use borrow.Author.Needs.{needs}
 use Rattle.session.proofs.has_image.Statement.{statement}
 use Rattle.session.proofs.has_image.Tie as tie
@@ -13,10 +14,10 @@ is-image-requires : tie.Need-is-image-requires
 is-image-requires c κs = search needs
 
 returns : tie.Need-returns
-returns c = rw (c .enum-told .given .1) refl
+returns c = steps (rw (c .enum-told .given .1) refl)
 
 returns-2 : tie.Need-returns-2
-returns-2 c = rw (c .before .before .g .given .1, c .is-image .ensures) refl
+returns-2 c = steps (rw (c .before .before .g .given .1, c .is-image .ensures) refl)
 
 pub has-image-spec : {M : Type 1} → statement M
 has-image-spec =

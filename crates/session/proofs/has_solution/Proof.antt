@@ -1,5 +1,6 @@
 use Rattle.lists.specs.Walk.{full}
 use mathlib.Core.Path.{refl}
+use Rattle.stages.specs.Session.{steps}
 use borrow.Author.Needs.{needs}
 use Rattle.session.proofs.has_solution.Statement.{statement}
 use Rattle.session.proofs.has_solution.Tie as tie
@@ -14,11 +15,11 @@ has-solution-requires : tie.Need-has-solution-requires
 has-solution-requires c κs = search needs
 
 returns : tie.Need-returns
-returns c = rw (c .enum-told .given .1) refl
+returns c = steps (rw (c .enum-told .given .1) refl)
 
 returns-2 : tie.Need-returns-2
 unfolding full
-returns-2 c = rw (c .before .before .g .given .1, c .has-solution .ensures) refl
+returns-2 c = steps (rw (c .before .before .g .given .1, c .has-solution .ensures) refl)
 
 pub has-solution-spec : {M : Type 1} → statement M
 has-solution-spec =

@@ -1,7 +1,7 @@
 use denote.Ref.{now}
 use mathlib.Core.Path.{sym, ap, _∙_}
 use Rattle.record.specs.Record.{readingOf}
-use Rattle.stages.specs.Session.{outcomeOf, refused-outcome, reading-outcome}
+use Rattle.stages.specs.Session.{steps, outcomeOf, refused-outcome, reading-outcome}
 use borrow.Author.Needs.{needs}
 use Rattle.session.proofs.read.Statement.{statement}
 use Rattle.session.proofs.read.Tie as tie
@@ -28,17 +28,19 @@ returns : tie.Need-returns
 returns c =
     let r = c .before .before .before .before in
     let s = r .before .before .before in
-    c .accepted .ensures
+    steps
+    (c .accepted .ensures
     ∙ ap (outcomeOf (s .args .s)) (sym (c .before .before .r .given .1) ∙ r .read .ensures .reading ∙ ap (readingOf (now (s .args .bytes))) (r .before .turn .ensures))
-    ∙ sym (reading-outcome (s .args .s .stage) (now (s .args .bytes)))
+    ∙ sym (reading-outcome (s .args .s .stage) (now (s .args .bytes))))
 
 returns-2 : tie.Need-returns-2
 returns-2 c =
     let r = c .before .before .before .before in
     let s = r .before .before .before in
-    rw (c .refused .ensures .0, c .refused .ensures .1) (refused-outcome (s .args .s .stage) (c .before .before .r2 .given .0 .0))
+    steps
+    (rw (c .refused .ensures .0, c .refused .ensures .1) (refused-outcome (s .args .s .stage) (c .before .before .r2 .given .0 .0))
     ∙ ap (outcomeOf (s .args .s)) (sym (c .before .before .r2 .given .1) ∙ r .read .ensures .reading ∙ ap (readingOf (now (s .args .bytes))) (r .before .turn .ensures))
-    ∙ sym (reading-outcome (s .args .s .stage) (now (s .args .bytes)))
+    ∙ sym (reading-outcome (s .args .s .stage) (now (s .args .bytes))))
 
 pub read-spec : {M : Type 1} → statement M
 read-spec =

@@ -1,4 +1,5 @@
 use mathlib.Core.Path.{refl, _∙_}
+use Rattle.stages.specs.Session.{steps}
 use borrow.Author.Needs.{needs}
 use Rattle.session.proofs.rewind.Statement.{statement}
 use Rattle.session.proofs.rewind.Tie as tie
@@ -6,8 +7,8 @@ use Rattle.session.proofs.rewind.Tie as tie
 enum-told : tie.Need-enum-told
 enum-told c = search needs
 
-refused-requires : tie.Need-refused-requires
-refused-requires c κs = search needs
+no-job-requires : tie.Need-no-job-requires
+no-job-requires c κs = search needs
 
 enum-known-g : tie.Need-enum-known-g
 enum-known-g c = search needs
@@ -16,17 +17,17 @@ rewound-requires : tie.Need-rewound-requires
 rewound-requires c κs = search needs
 
 returns : tie.Need-returns
-returns c = rw (c .refused .ensures .0, c .refused .ensures .1, c .before .enum-told .given .1) refl
+returns c = steps (rw (c .no-job .ensures .0, c .no-job .ensures .1, c .before .enum-told .given .1) refl)
 
 returns-2 : tie.Need-returns-2
-returns-2 c = c .rewound .ensures ∙ rw (c .before .before .g .given .1) refl
+returns-2 c = steps (c .rewound .ensures ∙ rw (c .before .before .g .given .1) refl)
 
 pub rewind-spec : {M : Type 1} → statement M
 rewind-spec =
     tie.close
     (tie.spec
     enum-told
-    refused-requires
+    no-job-requires
     enum-known-g
     rewound-requires
     returns

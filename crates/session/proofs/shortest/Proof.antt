@@ -1,4 +1,5 @@
 use mathlib.Core.Path.{refl}
+use Rattle.stages.specs.Session.{steps}
 use borrow.Author.Needs.{needs}
 use Rattle.session.proofs.shortest.Statement.{statement}
 use Rattle.session.proofs.shortest.Tie as tie
@@ -16,10 +17,10 @@ least-requires : tie.Need-least-requires
 least-requires c κs = search needs
 
 returns : tie.Need-returns
-returns c = rw (c .enum-told .given .1) refl
+returns c = steps (rw (c .enum-told .given .1) refl)
 
 returns-2 : tie.Need-returns-2
-returns-2 c = rw (c .before .before .before .g .given .1, c .least .ensures, c .before .of-job .ensures) refl
+returns-2 c = steps (rw (c .before .before .before .g .given .1, c .least .ensures, c .before .of-job .ensures .pattern) refl)
 
 pub shortest-spec : {M : Type 1} → statement M
 shortest-spec =

@@ -3,7 +3,7 @@ use mathlib.Core.List.{[]}
 use borrow.Author.Needs.{needs}
 use Rattle.stages.specs.declared.Session.{Session}
 use Rattle.stages.specs.declared.Answer.the-variants.{Done}
-use Rattle.stages.specs.Session.{outcome}
+use Rattle.stages.specs.Session.{outcome, steps}
 use Rattle.stages.proofs.clear.Statement.{statement}
 use Rattle.stages.proofs.clear.Tie as tie
 
@@ -11,7 +11,7 @@ start-requires : tie.Need-start-requires
 start-requires c κs = search needs
 
 returns : tie.Need-returns
-returns c = ap (λ (t : Session). outcome [] t Done) (c .start .ensures)
+returns c = steps (ap (λ (t : Session). outcome [] t Done) (c .start .ensures))
 
 pub clear-spec : {M : Type 1} → statement M
 clear-spec = tie.close (tie.spec start-requires returns)

@@ -46,17 +46,20 @@ part-list-one-end c = within c .1
 list-one-requires : tie.Need-list-one-requires Inv-loop μ-loop
 list-one-requires c κs = search needs
 
+returns : tie.Need-returns Inv-loop μ-loop
+returns c = search needs
+
 add-at : tie.Need-add-at Inv-loop μ-loop
-add-at c = let w = within (c .before .before) in search needs
+add-at c = let w = within (c .before .before .before) in search needs
 
 loop-less : tie.Need-loop-less Inv-loop μ-loop
-loop-less c = let w = within (c .before .before) in omega arith
+loop-less c = let w = within (c .before .before .before) in omega arith
 
 loop-again : tie.Need-loop-again Inv-loop μ-loop
 loop-again c = tt
 
-returns : tie.Need-returns Inv-loop μ-loop
-returns c = search needs
+returns-2 : tie.Need-returns-2 Inv-loop μ-loop
+returns-2 c = search needs
 
 pub list-all-spec : {M : Type 1} → statement M
 list-all-spec =
@@ -70,7 +73,8 @@ list-all-spec =
     part-list-one-start
     part-list-one-end
     list-one-requires
+    returns
     add-at
     loop-less
     loop-again
-    returns)
+    returns-2)

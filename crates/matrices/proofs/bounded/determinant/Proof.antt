@@ -13,11 +13,11 @@ determinant-requires c κs = within-bounded _ (sym (c .before .is-within .ensure
 
 returns : tie.Need-returns
 unfolding determinantWithin
-returns c = rw (sym (c .before .before .is-within .ensures) ∙ c .before .if1 .taken) (c .determinant .ensures)
+returns c = let t = sym (c .before .before .is-within .ensures) ∙ c .before .if1 .taken in (sym t, rw t (c .determinant .ensures))
 
 returns-2 : tie.Need-returns-2
 unfolding determinantWithin
-returns-2 c = rw (sym (c .before .is-within .ensures) ∙ c .if1 .left) refl
+returns-2 c = let t = sym (c .before .is-within .ensures) ∙ c .if1 .left in (sym t, rw t refl)
 
 pub determinant-spec : {M : Type 1} → statement M
 determinant-spec = tie.close (tie.spec is-within-requires determinant-requires returns returns-2)

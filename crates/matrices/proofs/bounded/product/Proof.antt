@@ -1,7 +1,9 @@
-use mathlib.Core.Path.{_≡_, refl, sym, ap₂, _∙_}
+use mathlib.Core.Path.{_≡_, refl, sym, ap, ap₂, _∙_}
 use mathlib.Core.Bool.{_&&_}
+use mathlib.Core.List.{[], _∷_}
+use lib.ListN.{getD}
 use Rattle.integers.specs.Booleans.{both-true}
-use Rattle.matrices.specs.Matrix.{isWithin, productWithin}
+use Rattle.matrices.specs.Matrix.{Matrix, isWithin, productOf, productWithin}
 use Rattle.matrices.specs.Within.{within-bounded}
 use borrow.Author.Needs.{needs}
 use Rattle.matrices.proofs.bounded.product.Statement.{statement}
@@ -23,13 +25,23 @@ product-requires c κs =
     let h = both-true (isWithin (a .m)) (isWithin (a .n)) (sym (tested (c .before)) ∙ c .if1 .taken) in
     (within-bounded (a .m) (h .0), within-bounded (a .n) (h .1))
 
+array-copy-out-first : tie.Need-array-copy-out-first
+array-copy-out-first c = search needs
+
+array-copy-out-second : tie.Need-array-copy-out-second
+array-copy-out-second c = search needs
+
 returns : tie.Need-returns
-unfolding productWithin
-returns c = rw (sym (tested (c .before .before)) ∙ c .before .if1 .taken) (c .product .ensures)
+unfolding productWithin productOf
+returns c =
+    let p = c .before .before in
+    let t = sym (tested (p .before .before)) ∙ p .before .if1 .taken in
+    let rows = ap (λ (m : Matrix). getD m 0 [] ∷ getD m 1 [] ∷ []) (p .product .ensures) in
+    record { exact = sym t; rows = rw t rows }
 
 returns-2 : tie.Need-returns-2
 unfolding productWithin
-returns-2 c = rw (sym (tested (c .before)) ∙ c .if1 .left) refl
+returns-2 c = let t = sym (tested (c .before)) ∙ c .if1 .left in record { exact = sym t; rows = rw t refl }
 
 pub product-spec : {M : Type 1} → statement M
 product-spec =
@@ -38,5 +50,7 @@ product-spec =
     is-within-requires
     is-within-requires-2
     product-requires
+    array-copy-out-first
+    array-copy-out-second
     returns
     returns-2)

@@ -5,10 +5,10 @@ use native.Mathlib.Nat.{le-of-eq}
 use native.Mathlib.Omega.{arith}
 use borrow.Author.Needs.{needs}
 use lib.ListN.{length, getD}
-use Rattle.text.specs.Append.{Appended}
+use Rattle.text.specs.Append.{Appended, append-none, append-put, append-whole}
 use Rattle.alphabet.specs.Letters.{letterOf}
 use Rattle.qasm.specs.Text.{line}
-use Rattle.qasm.proofs.Writing.{textFrom, text-end, text-back, length-back, text-fewer, put-first, put-next, put-whole}
+use Rattle.qasm.proofs.Writing.{textFrom, text-end, text-back, length-back, text-fewer}
 use Rattle.qasm.proofs.lines.put_lines.Statement.{statement}
 use Rattle.qasm.proofs.lines.put_lines.Tie as tie
 
@@ -41,7 +41,7 @@ module _ (t : tie.At-loop Inv-loop μ-loop) where
 loop-holds : tie.Need-loop-holds Inv-loop μ-loop
 loop-holds c =
     let a = c .before .before .args in
-    (le-of-eq refl, rw (text-end (a .word .now) (length (a .word .now)) (le-of-eq refl)) (put-first (a .out .now)))
+    (le-of-eq refl, rw (text-end (a .word .now) (length (a .word .now)) (le-of-eq refl)) (append-none (a .out .now)))
 
 sub-i : tie.Need-sub-i Inv-loop μ-loop
 sub-i c = search needs
@@ -64,7 +64,7 @@ loop-again c =
     let h : 0 < i t = omega arith in
     let a = t .loop .inv .1 in
     let l = t .loop .inv .0 in
-    (omega arith, rw (text-back (word t) (i t) h l) (put-next (start t .args .out .now) (textFrom (word t) (i t)) (gate t) (t .loop .out) (t .loop .at) a (room t h) (c .before .before .put-line .ensures)))
+    (omega arith, rw (text-back (word t) (i t) h l) (append-put (start t .args .out .now) 0 (textFrom (word t) (i t)) (gate t) (t .loop .out) (t .loop .at) a (omega (arith, room t h)) (c .before .before .put-line .ensures)))
 
 same-length : tie.Need-same-length Inv-loop μ-loop
 same-length c = c .before .loop .inv .1 .same
@@ -73,7 +73,7 @@ returns : tie.Need-returns Inv-loop μ-loop
 returns c =
     let t = c .before in
     let e : i t ≡ 0 = omega arith in
-    put-whole (start t .args .out .now) (textFrom (word t) 0) (t .loop .out) (t .loop .at) (start t .pre) (rw e at (t .loop .inv .1))
+    append-whole (start t .args .out .now) (textFrom (word t) 0) (t .loop .out) (t .loop .at) (start t .pre) (rw e at (t .loop .inv .1))
 
 pub put-lines-spec : {M : Type 1} → statement M
 put-lines-spec =

@@ -25,7 +25,7 @@ returns c =
     rw (course-hands (e .before .before .args .c) _ _ (e .enum-told .given .1)) (c .before .from-spot .ensures)
 
 returns-2 : tie.Need-returns-2
-returns-2 c = rw (c .after-end .ensures .0, c .after-end .ensures .1, c .before .enum-told2 .given .1) (record { met = refl; slice = refl })
+returns-2 c = rw (c .after-end .ensures .0, c .after-end .ensures .1, c .before .enum-told2 .given .1) (record { met = refl; values = refl; slice = refl })
 
 pub from-course-spec : {M : Type 1} → statement M
 from-course-spec =

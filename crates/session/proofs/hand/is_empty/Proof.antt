@@ -6,6 +6,7 @@ use Rattle.ranks.specs.Rest.{at, isNil, leftAt}
 use Rattle.ranks.specs.Rank.{top}
 use Rattle.cuts.specs.Digits.{span}
 use Rattle.lists.specs.Walk.{listedAt, spotOf, full}
+use Rattle.stages.specs.Place.{least-rank}
 use borrow.Author.Needs.{needs}
 use Rattle.session.proofs.hand.is_empty.Statement.{statement}
 use Rattle.session.proofs.hand.is_empty.Tie as tie
@@ -34,7 +35,7 @@ returns c = record {
       let k = c .before .before .before .before in
       let j = k .before .before .args .c .job in
       let nil : isNil (full j) ≡ true = not-is (isNil (full j)) (sym (ap not (c .has-solution .ensures)) ∙ e) in
-      ap (leftAt (listedAt j) (top span)) (ap spotOf (k .p .given .1) ∙ ap at (c .before .before .is-least .ensures (c .before .if1 .taken))) ∙ nil-is (full j) nil;
+      ap (leftAt (listedAt j) (top span)) (ap spotOf (k .p .given .1) ∙ ap at (least-rank (k .p .given .0 .0) (sym (c .before .before .is-least .ensures) ∙ c .before .if1 .taken))) ∙ nil-is (full j) nil;
 }
 
 enum-told : tie.Need-enum-told

@@ -1,0 +1,39 @@
+// Standard output, standard input and files: the loops around the system's calls, one call and one step of the machine (crate transfer) a turn.
+ghost use Prim.Native.Nat.{_≤_};
+ghost use lib.ListN.{length};
+ghost use Rattle.transfer.specs.Sending.{Turn, Sent};
+
+mod reading;
+mod wait;
+
+use libc::STDOUT_FILENO;
+pub use reading::read;
+pub use reading::read_some;
+use transfer::Transfer;
+
+// Writes the text to standard output: whether all of it was taken. Where not, a line on standard error says why.
+pub fn print(text: &[u8]) -> bool
+    ensures { λ r. ⌜ Sent (now (text .entry)) r ⌝ }
+{
+    let mut t = transfer::begin(text.len());
+    while t.more {
+        t = offer(text, t);
+    }
+    if t.failed {
+        os::fail(b"standard output");
+    }
+    !t.failed
+}
+
+// A write of what is left of the text, and the step that the system's answer makes.
+fn offer(text: &[u8], t: Transfer) -> Transfer
+    requires { ⌜ t .at ≤ length (now text) ⌝ }
+    ensures { λ r. ⌜ Turn (now (text .entry)) t r ⌝ }
+{
+    let at = t.at;
+    let got = libc::write(STDOUT_FILENO, &text[at..]);
+    let a = transfer::judged(got, os::errno());
+    let p = t.patience;
+    wait::after(a, p);
+    transfer::sent(t, text.len(), a)
+}
