@@ -15,6 +15,7 @@ pub fn put(out: &mut [u8], c: usize, line: &[u8], from: usize) -> usize {
         wording::QASM => texts::put_text(out, line, from),
         wording::UNQASM => texts::put_word(out, line, from),
         wording::SHEET => sheets::put_reading(out, line, from),
+        wording::PUT_SHEET => sheets::put_sheet(out, line, from),
         _ => replies::put_bad(out),
     }
 }

@@ -1,12 +1,19 @@
-// `sheet READER` and the bytes of a sheet.
+// `sheet READER` and the bytes of a sheet; `put-sheet ROOM K`, the four numbers of u, those of t, and `TICKS`.
 use crate::byte_buffer;
+use crate::texts::put_hexed;
+use arguments::Four;
 use arguments::Natural;
+use arguments::Scaled;
+use arguments::Word;
 use hex::Hex;
 use replies::Line;
 use replies::Value;
 use sheet::Reading;
 use sheet::Refusal;
 use sheet::Sheet;
+use sheet::Writing;
+use wording::Numbers;
+use wording::Slice;
 
 // The line that answers `sheet`, and its length.
 pub fn put_reading(out: &mut [u8], line: &[u8], from: usize) -> usize {
@@ -46,4 +53,57 @@ fn read_of(r: Reading) -> Line {
 
 fn desk_of(s: Sheet, taken: usize) -> Value {
     replies::of_desk(taken, s.k, s.u, s.t, s.ticks)
+}
+
+// The line that answers `put-sheet`, and its length.
+pub fn put_sheet(out: &mut [u8], line: &[u8], from: usize) -> usize {
+    let n = wording::numbers_from(line, from);
+    if n.good {
+        if n.count == 11 {
+            return put_fields(out, n);
+        }
+    }
+    replies::put_bad(out)
+}
+
+// What the numbers of a line ask for: a sheet, and the length of the slice to be lent.
+enum Asked {
+    Sheet(Sheet, usize),
+    Bad,
+}
+
+fn asked_of(n: Numbers) -> Asked {
+    let w = n.values;
+    let Slice::Length(room) = wording::room(w[0]) else {
+        return Asked::Bad;
+    };
+    let Scaled::Point(k, u) = arguments::scaled_at(&w, 1) else {
+        return Asked::Bad;
+    };
+    let Four::Point(t) = arguments::point_at(&w, 6) else {
+        return Asked::Bad;
+    };
+    let Word::Fits(ticks) = arguments::word_of(w[10]) else {
+        return Asked::Bad;
+    };
+    Asked::Sheet(Sheet { k, u, t, ticks }, room)
+}
+
+fn put_fields(out: &mut [u8], n: Numbers) -> usize {
+    let Asked::Sheet(s, room) = asked_of(n) else {
+        return replies::put_bad(out);
+    };
+    let mut bytes = io::large_buffer();
+    written(out, s, &mut bytes, room)
+}
+
+fn written(out: &mut [u8], s: Sheet, bytes: &mut [u8], room: usize) -> usize {
+    if bytes.len() < room {
+        return replies::put_bad(out);
+    }
+    let w = sheet::write(s, &mut bytes[..room]);
+    match w {
+        Writing::Wrote(k) => put_hexed(out, bytes, k),
+        Writing::Refused(f) => replies::put_refused(out, f.number()),
+    }
 }

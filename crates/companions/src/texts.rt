@@ -59,7 +59,8 @@ fn text_of(out: &mut [u8], bytes: &[u8], n: usize, text: &mut [u8], room: usize)
     }
 }
 
-fn put_hexed(out: &mut [u8], text: &[u8], k: usize) -> usize {
+// The first k bytes of a text, in hexadecimal.
+pub(crate) fn put_hexed(out: &mut [u8], text: &[u8], k: usize) -> usize {
     if text.len() < k {
         return replies::put_bad(out);
     }
