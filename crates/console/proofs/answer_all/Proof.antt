@@ -1,65 +1,86 @@
--- `answer_all` is safe and ends: each line lies within the bytes and after those before it. Assumes nothing.
-use Prim.Native.Nat.{_-_, _≤_}
-use mathlib.Core.Bool.{false}
-use native.Mathlib.Nat.{le-of-lt}
+-- `answer_all` meets its contract: each byte of the part is handed to the machine once and in order. Assumes nothing.
+use mathlib.Core.Path.{_≡_, refl, _∙_}
+use mathlib.Core.List.{[]}
+use Prim.Native.Nat.{ℕ, _+_, _-_, _≤_}
 use native.Mathlib.Omega.{arith}
-use borrow.Author.Needs.{needs}
 use lib.ListN.{length}
-use Rattle.scan.specs.Run.{isByte, runEnd-within}
+use Rattle.input_lines.specs.Gathered.{begun}
+use Rattle.input_lines.specs.Fed.{Feeding, feed, step-fits, step-length}
+use borrow.Author.Needs.{needs}
 use Rattle.console.proofs.answer_all.Statement.{statement}
 use Rattle.console.proofs.answer_all.Tie as tie
 
 abbrev Inv-loop : tie.InvT-loop
-Inv-loop s left₀ at₀ left at = Unit {0}
+Inv-loop line₀ chunk out₀ desk₀ gathered₀ i₀ line out desk gathered i = (i ≤ length chunk) × ((length line ≡ length line₀) × ((length out ≡ length out₀) × Feeding gathered₀ chunk gathered line₀ line i))
 
 abbrev μ-loop : tie.MeasureT-loop
-μ-loop s left₀ at₀ left at = length s - at
+μ-loop line₀ chunk out₀ desk₀ gathered₀ i₀ line out desk gathered i = length chunk - i
 
-module _ (c : tie.After-line-end Inv-loop μ-loop) where
-  abbrev here : tie.At-loop Inv-loop μ-loop
-  here = c .before .before
-
-  abbrev start : tie.Start Inv-loop μ-loop
-  start = here .before .before .before
-
-  within : (here .loop .at ≤ c .line-end .result) × (c .line-end .result ≤ length (start .args .s .now))
-  within =
-      let e = c .line-end .ensures in
-      let b = runEnd-within (isByte 10 false) (start .args .s .now) (here .loop .at) (le-of-lt (c .before .loop-test .taken)) in
-      (omega arith, omega arith)
-
-start-requires : tie.Need-start-requires Inv-loop μ-loop
-start-requires c κs = search needs
+-- the turn of a byte
+module _ (k : tie.After-take Inv-loop μ-loop) where
+  abbrev turn : tie.In-loop Inv-loop μ-loop
+  turn = k .before .before .before
 
 loop-holds : tie.Need-loop-holds Inv-loop μ-loop
-loop-holds c = tt
+loop-holds c = (omega arith, (refl, (refl, record { said = []; run = begun })))
 
-line-end-requires : tie.Need-line-end-requires Inv-loop μ-loop
-line-end-requires c κs = search needs
+shared-slice-read-take : tie.Need-shared-slice-read-take Inv-loop μ-loop
+shared-slice-read-take c = search needs
 
-sub-answer : tie.Need-sub-answer Inv-loop μ-loop
-sub-answer c = within c .0
+take-requires : tie.Need-take-requires Inv-loop μ-loop
+take-requires c κs = search needs
 
-part-answer-start : tie.Need-part-answer-start Inv-loop μ-loop
-part-answer-start c = within c .0
+add-i : tie.Need-add-i Inv-loop μ-loop
+add-i c = search needs
 
-part-answer-end : tie.Need-part-answer-end Inv-loop μ-loop
-part-answer-end c = within c .1
+is-said-requires : tie.Need-is-said-requires Inv-loop μ-loop
+is-said-requires c κs = search needs
 
 answer-requires : tie.Need-answer-requires Inv-loop μ-loop
-answer-requires c κs = search needs
+answer-requires c κs = step-fits (c .before .before .before .before .before .before .before .take .ensures)
 
-add-at : tie.Need-add-at Inv-loop μ-loop
-add-at c = let w = within (c .before .before) in search needs
+same-length : tie.Need-same-length Inv-loop μ-loop
+same-length c = let k = c .before .before .before .before .before .before .before .before .before .before .before .before .before in step-length (k .take .ensures) ∙ turn k .before .loop .inv .1 .0
 
-loop-less : tie.Need-loop-less Inv-loop μ-loop
-loop-less c = let w = within (c .before .before) in omega arith
-
-loop-again : tie.Need-loop-again Inv-loop μ-loop
-loop-again c = tt
+same-length-2 : tie.Need-same-length-2 Inv-loop μ-loop
+same-length-2 c = search needs
 
 returns : tie.Need-returns Inv-loop μ-loop
-returns c = search needs
+returns c =
+    let k = c .before .before .before .before .before .before .before .before .before .before .before .before .before in
+    let f = feed (turn k .loop-test .taken) (turn k .before .loop .inv .1 .1 .1) (k .take .ensures) in
+    record { count = turn k .before .loop .i + 1; said = f .said; run = f .run; all = λ e. absurd (let y : _≡_ {A = ℕ} 0 1 = cc in omega arith) }
+
+loop-less : tie.Need-loop-less Inv-loop μ-loop
+loop-less c = let h = turn (c .before .before .before .before .before .before .before .before .before .before .before .before .before) .loop-test .taken in omega arith
+
+loop-again : tie.Need-loop-again Inv-loop μ-loop
+loop-again c =
+    let k = c .before .before .before .before .before .before .before .before .before .before .before .before .before in
+    let h = turn k .loop-test .taken in
+    (omega arith, (step-length (k .take .ensures) ∙ turn k .before .loop .inv .1 .0, (search needs, feed (turn k .loop-test .taken) (turn k .before .loop .inv .1 .1 .1) (k .take .ensures))))
+
+loop-less-2 : tie.Need-loop-less-2 Inv-loop μ-loop
+loop-less-2 c = let h = turn (c .before .before .before .before .before) .loop-test .taken in omega arith
+
+loop-again-2 : tie.Need-loop-again-2 Inv-loop μ-loop
+loop-again-2 c =
+    let k = c .before .before .before .before .before in
+    let h = turn k .loop-test .taken in
+    (omega arith, (step-length (k .take .ensures) ∙ turn k .before .loop .inv .1 .0, (search needs, feed (turn k .loop-test .taken) (turn k .before .loop .inv .1 .1 .1) (k .take .ensures))))
+
+same-length-3 : tie.Need-same-length-3 Inv-loop μ-loop
+same-length-3 c = c .before .loop .inv .1 .0
+
+same-length-4 : tie.Need-same-length-4 Inv-loop μ-loop
+same-length-4 c = c .before .loop .inv .1 .1 .0
+
+returns-2 : tie.Need-returns-2 Inv-loop μ-loop
+returns-2 c =
+    let l = c .before .loop in
+    let n = l .inv .0 in
+    let h = c .loop-test .left in
+    record { count = l .i; said = l .inv .1 .1 .1 .said; run = l .inv .1 .1 .1 .run; all = λ e. omega arith }
 
 pub answer-all-spec : {M : Type 1} → statement M
 answer-all-spec =
@@ -67,14 +88,19 @@ answer-all-spec =
     (tie.spec
     Inv-loop
     μ-loop
-    start-requires
     loop-holds
-    line-end-requires
-    sub-answer
-    part-answer-start
-    part-answer-end
+    shared-slice-read-take
+    take-requires
+    add-i
+    is-said-requires
     answer-requires
-    add-at
+    same-length
+    same-length-2
+    returns
     loop-less
     loop-again
-    returns)
+    loop-less-2
+    loop-again-2
+    same-length-3
+    same-length-4
+    returns-2)

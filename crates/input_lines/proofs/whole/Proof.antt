@@ -2,8 +2,8 @@
 use mathlib.Core.Path.{refl}
 use borrow.Author.Tests.{lt-ltb, le-ltb}
 use borrow.Author.Needs.{needs}
-use Rattle.lines.proofs.whole.Statement.{statement}
-use Rattle.lines.proofs.whole.Tie as tie
+use Rattle.input_lines.proofs.whole.Statement.{statement}
+use Rattle.input_lines.proofs.whole.Tie as tie
 
 returns : tie.Need-returns
 returns c = search needs

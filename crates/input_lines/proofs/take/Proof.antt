@@ -1,9 +1,9 @@
 -- `take` meets its contract. Assumes nothing.
 use mathlib.Core.Path.{refl}
-use Rattle.lines.specs.Gathered.{ended, grew}
+use Rattle.input_lines.specs.Gathered.{ended, grew}
 use borrow.Author.Needs.{needs}
-use Rattle.lines.proofs.take.Statement.{statement}
-use Rattle.lines.proofs.take.Tie as tie
+use Rattle.input_lines.proofs.take.Statement.{statement}
+use Rattle.input_lines.proofs.take.Tie as tie
 
 empty-requires : tie.Need-empty-requires
 empty-requires c κs = search needs

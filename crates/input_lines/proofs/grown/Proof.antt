@@ -7,8 +7,8 @@ use native.Mathlib.Omega.{arith}
 use lib.ListN.{length-set}
 use lib.Seq.{take-suc-set}
 use borrow.Author.Needs.{needs}
-use Rattle.lines.proofs.grown.Statement.{statement}
-use Rattle.lines.proofs.grown.Tie as tie
+use Rattle.input_lines.proofs.grown.Statement.{statement}
+use Rattle.input_lines.proofs.grown.Tie as tie
 
 never : {P : Type 0} {b : Bool} → b ≡ true → b ≡ false → P
 never e f = absurd (let y : _≡_ {A = ℕ} 0 1 = cc in omega arith)

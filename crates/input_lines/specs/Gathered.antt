@@ -7,11 +7,11 @@ use native.Mathlib.Omega.{arith}
 use borrow.Author.Tests.{ltb-true, ltb-false, lt-ltb, le-ltb, eq-eqb, ne-eqb}
 use lib.Dec.{eqb, ltb}
 use lib.ListN.{length, take, length-append}
-use Rattle.lines.specs.declared.Gathered.{Gathered}
-use Rattle.lines.specs.declared.Said.{Said}
-use Rattle.lines.specs.declared.Said.the-variants as S
-use Rattle.lines.specs.declared.Step.{Step}
-use Rattle.lines.specs.Lines.{lastLine, linesWith, Event, line, long, saidOf, eventsOf}
+use Rattle.input_lines.specs.declared.Gathered.{Gathered}
+use Rattle.input_lines.specs.declared.Said.{Said}
+use Rattle.input_lines.specs.declared.Said.the-variants as S
+use Rattle.input_lines.specs.declared.Step.{Step}
+use Rattle.input_lines.specs.Lines.{lastLine, linesWith, Event, line, long, saidOf, eventsOf}
 
 abbrev pub none : Gathered
 none = record { length = 0; long = false }

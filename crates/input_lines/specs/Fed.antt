@@ -9,12 +9,12 @@ use borrow.Author.Tests.{ltb-false, eqb-true}
 use lib.Dec.{eqb, ltb}
 use lib.ListN.{length, take, getD}
 use lib.Seq.{take-suc, take-length}
-use Rattle.lines.specs.declared.Gathered.{Gathered}
-use Rattle.lines.specs.declared.Said.{Said}
-use Rattle.lines.specs.declared.Said.the-variants as S
-use Rattle.lines.specs.declared.Step.{Step}
-use Rattle.lines.specs.Lines.{Event}
-use Rattle.lines.specs.Gathered.{wholeOf, lastOf, Stepped, ended, grew, eventOf, Run, begun, turned}
+use Rattle.input_lines.specs.declared.Gathered.{Gathered}
+use Rattle.input_lines.specs.declared.Said.{Said}
+use Rattle.input_lines.specs.declared.Said.the-variants as S
+use Rattle.input_lines.specs.declared.Step.{Step}
+use Rattle.input_lines.specs.Lines.{Event}
+use Rattle.input_lines.specs.Gathered.{wholeOf, lastOf, Stepped, ended, grew, eventOf, Run, begun, turned}
 
 -- a line that is said stands within the slice
 abbrev pub Fits : ℕ → Said → Type 0

@@ -2,8 +2,8 @@
 use mathlib.Core.Path.{refl}
 use borrow.Author.Tests.{eq-eqb, ne-eqb}
 use borrow.Author.Needs.{needs}
-use Rattle.lines.proofs.last.Statement.{statement}
-use Rattle.lines.proofs.last.Tie as tie
+use Rattle.input_lines.proofs.last.Statement.{statement}
+use Rattle.input_lines.proofs.last.Tie as tie
 
 returns : tie.Need-returns
 returns c = search needs
