@@ -8,12 +8,12 @@ ghost use Rattle.lists.specs.Walk.{full};
 
 mod search;
 
+use brief::Look;
 use operator::Operator;
 use reduction::Invertible;
 pub use reduction::propose;
 use reduction::usable;
 use region::Job;
-use walk::Look;
 
 // The fuel of a brief look, and of a longer one.
 const BRIEF: u64 = 32768;
@@ -24,7 +24,7 @@ const LONGER: u64 = 524288;
 pub fn has_solution(job: Job, caller: Operator) -> bool
     ensures { λ r. ⌜ r ≡ not (isNil (full job)) ⌝ }
 {
-    let k = walk::glance(job, BRIEF);
+    let k = brief::glance(job, BRIEF);
     match k {
         Look::Found => true,
         Look::Nothing(_) => false,
@@ -80,7 +80,7 @@ fn looked(job: Job, g: Invertible) -> bool
     requires { ⌜ (acceptedJob job ≡ true) × Undoing g ⌝ }
     ensures { λ r. ⌜ r ≡ not (isNil (full job)) ⌝ }
 {
-    let k = walk::glance(job, LONGER);
+    let k = brief::glance(job, LONGER);
     match k {
         Look::Found => true,
         Look::Nothing(_) => false,
