@@ -20,6 +20,7 @@ use Rattle.trays.specs.Tray.{anyAt, fiveOf}
 use Rattle.kinds.specs.declared.Refusal.the-variants.{Ended}
 use Rattle.taking.specs.declared.Refusal.{Refusal}
 use Rattle.taking.specs.declared.Refusal.the-variants as F
+use Rattle.taking.specs.declared.Answer as T
 use Rattle.taking.specs.declared.Verdict.{Verdict}
 use Rattle.taking.specs.declared.Verdict.the-variants as Said
 use Rattle.taking.specs.Taking.{Given, takes, takeOf, numberOf, noTray}
@@ -65,6 +66,10 @@ outcome l s a = (answerOf l a, meaning s)
 -- a call that finds s, leaves t and answers a, with the lent slice l (none: []), is a step of the model
 abbrev pub Steps : Call world → List ℤ → Session → Session → Answer → Type 0
 Steps c l s t a = outcome l t a ≡ step world c (meaning s)
+
+-- a take of what `taking::take` read
+abbrev pub Takes : Session → T.Answer → Session → Answer → Type 0
+Takes s g t a = outcome [] t a ≡ Model.begun world (meaning s) (takeOf (g .verdict) (g .tray))
 
 -- the same with the slice that it leaves
 pub record Gives (o : Model.Outcome world) (old new : List ℤ) (t : Session) (a : Answer) : Type 0 where

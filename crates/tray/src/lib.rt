@@ -7,7 +7,7 @@ ghost use Rattle.ranks.specs.Rank.{top};
 ghost use Rattle.cuts.specs.Digits.{span};
 ghost use Rattle.lists.specs.Walk.{spotOf};
 ghost use Rattle.trays.specs.Tray.{anyAt};
-ghost use Rattle.tray.specs.Session.{world, meaning, outcome, fresh, Steps, Gives, Hands};
+ghost use Rattle.tray.specs.Session.{world, meaning, outcome, fresh, Steps, Takes, Gives, Hands};
 use stages::place;
 pub use taking::Refusal;
 use taking::Verdict;
@@ -63,7 +63,13 @@ pub fn clear(s: Session) -> Outcome
 pub fn take(s: Session, k: u64, byte: u64, a: &[u8], b: &[u8]) -> Outcome
     ensures { λ r. ⌜ Steps (takingOf (record { scale = k; byte = byte; a = now (a .entry); b = now (b .entry) })) [] s (r .session) (r .answer) ⌝ }
 {
-    let g = taking::take(k, byte, a, b);
+    taken(s, taking::take(k, byte, a, b))
+}
+
+// The same with what `taking::take` read.
+pub fn taken(s: Session, g: taking::Answer) -> Outcome
+    ensures { λ r. ⌜ Takes s g (r .session) (r .answer) ⌝ }
+{
     let v = g.verdict;
     let t = g.tray;
     match v {

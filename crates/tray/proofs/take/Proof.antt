@@ -1,47 +1,18 @@
-use mathlib.Core.List.{[]}
-use mathlib.Core.Path.{ap₂, _∙_}
+use mathlib.Core.Path.{ap, _∙_}
 use borrow.Author.Needs.{needs}
-use Rattle.tray.specs.Session.{answerOf, outcome, meaning, took-taken, took-refused}
+use Rattle.takes.specs.Session as Model
+use Rattle.tray.specs.Session.{world, meaning}
 use Rattle.tray.proofs.take.Statement.{statement}
 use Rattle.tray.proofs.take.Tie as tie
 
 take-requires : tie.Need-take-requires
 take-requires c κs = search needs
 
-enum-told : tie.Need-enum-told
-enum-told c = search needs
-
-begun-requires : tie.Need-begun-requires
-begun-requires c κs = search needs
-
-enum-known-v : tie.Need-enum-known-v
-enum-known-v c = search needs
-
-refused-requires : tie.Need-refused-requires
-refused-requires c κs = search needs
+taken-requires : tie.Need-taken-requires
+taken-requires c κs = search needs
 
 returns : tie.Need-returns
-returns c =
-    let t = c .before .before .before .before in
-    let s = t .before .before .before in
-    ap₂ (λ a m. (answerOf [] a, m)) (c .begun .ensures .1) (c .begun .ensures .0)
-    ∙ took-taken (meaning (s .args .s)) (t .take .result .tray) _ (t .take .result .verdict) (t .take .ensures) (c .before .enum-told .given .1)
-
-returns-2 : tie.Need-returns-2
-returns-2 c =
-    let t = c .before .before .before .before .before in
-    let s = t .before .before .before in
-    ap₂ (λ z a. outcome [] z a) (c .refused .ensures .0) (c .refused .ensures .1)
-    ∙ took-refused (meaning (s .args .s)) (t .take .result .tray) _ (t .take .result .verdict) (t .take .ensures) _ (c .before .before .v .given .1)
+returns c = c .taken .ensures ∙ ap (Model.begun world (meaning (c .before .before .before .before .args .s))) (c .before .take .ensures)
 
 pub take-spec : {M : Type 1} → statement M
-take-spec =
-    tie.close
-    (tie.spec
-    take-requires
-    enum-told
-    begun-requires
-    enum-known-v
-    refused-requires
-    returns
-    returns-2)
+take-spec = tie.close (tie.spec take-requires taken-requires returns)
