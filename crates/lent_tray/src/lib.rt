@@ -35,7 +35,7 @@ pub fn rewind(s: &mut Session) -> Answer
 
 // Without a tray again.
 pub fn clear(s: &mut Session) -> Answer
-    ensures { λ r. ⌜ Steps rewinding [] (now (s .entry)) (now (s .exit)) r ⌝ }
+    ensures { λ r. ⌜ Steps clearing [] (now (s .entry)) (now (s .exit)) r ⌝ }
 {
     let r = tray::clear(*s);
     *s = r.session;

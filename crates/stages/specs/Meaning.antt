@@ -22,7 +22,7 @@ pub data Fits : Stage → Type 0 where
   walking : {c : Course} → SpotFits (c .spot) → Fits (S.Walking c)
 
 -- a point of such numbers is the only one of its rank
-spot-one : {p q : Spot} → SpotFits p → SpotFits q → spotOf p ≡ spotOf q → p ≡ q
+pub spot-one : {p q : Spot} → SpotFits p → SpotFits q → spotOf p ≡ spotOf q → p ≡ q
 spot-one (point {v} f) (point {v = w} g) e =
     let r : rankOf v ≡ rankOf w = cc in
     ap P.At (sym (point-rank v f) ∙ ap pointOf r ∙ point-rank w g)

@@ -31,6 +31,7 @@ use Rattle.taking.specs.declared.Refusal.{Refusal}
 use Rattle.tray.specs.declared.Session.{Session}
 use Rattle.tray.specs.declared.Answer.the-variants as A
 use Rattle.tray.specs.Session.{world, meaning, fresh, Hands}
+use Rattle.tray.specs.Meaning.{Fits, Same, meaning-one}
 use Rattle.tray.specs.Calls.{left, session-first, session-rising, session-count, session-end, session-refused, session-finished}
 use Rattle.tray.specs.Run.{Made, Link, hand-out, From, none, then, callsOf, answered, answersOf, link-answer, link-session, from-answers, from-after}
 
@@ -133,6 +134,10 @@ module _ {ms ns : List Made} {t u : Session} (r : Run ms t) (q : Run ns u) (same
 
   pub run-refused-meaning : meaning u ≡ meaning t
   run-refused-meaning = from-after q ∙ ap (after world (meaning fresh)) struck-calls ∙ session-refused (callsOf ms) .same-session ∙ sym (from-after r)
+
+  -- sessions of machine numbers
+  pub run-refused-session : Fits (u .stage) → Fits (t .stage) → Same u t
+  run-refused-session f g = meaning-one f g run-refused-meaning
 
 -- ---- the points themselves
 -- the points handed out since the last take, rewind or clearing
