@@ -23,6 +23,11 @@ wholeOf room g = cond (g .long) S.TooLong (cond (ltb room (g .length)) S.TooLong
 abbrev pub lastOf : ℕ → Gathered → Said
 lastOf room g = cond (g .long) S.TooLong (cond (eqb (g .length) 0) S.Nothing (wholeOf room g))
 
+abbrev pub isSaid : Said → Bool
+isSaid (S.Line n) = true
+isSaid S.TooLong = true
+isSaid S.Nothing = false
+
 -- one byte more of a line
 pub record Grown (g : Gathered) (b : ℕ) (r : Gathered) (old new : List ℕ) : Type 0 where
   pub same : length new ≡ length old

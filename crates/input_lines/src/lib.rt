@@ -1,7 +1,7 @@
 // The lines of an input, gathered byte by byte in a lent slice, however the input comes cut. A line that is longer than the slice is passed over, and said to be too
 // long where it ends. The lines said are those of the input, each once and in order (specs/Gathered).
 ghost use mathlib.Core.Path.{_≡_};
-ghost use Rattle.input_lines.specs.Gathered.{none, wholeOf, lastOf, Stepped, Grown};
+ghost use Rattle.input_lines.specs.Gathered.{none, wholeOf, lastOf, isSaid, Stepped, Grown};
 
 // So many bytes of a line stand at the start of the slice; whether the line is longer than the slice.
 pub struct Gathered {
@@ -95,7 +95,9 @@ fn grown(g: Gathered, line: &mut [u8], b: u8) -> Gathered
 }
 
 // Whether something is said.
-pub fn is_said(s: Said) -> bool {
+pub fn is_said(s: Said) -> bool
+    ensures { λ r. ⌜ r ≡ isSaid s ⌝ }
+{
     match s {
         Said::Line(_) => true,
         Said::TooLong => true,
