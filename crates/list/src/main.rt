@@ -1,11 +1,20 @@
 // The list program: SPEC, "List program".
+ghost use Rattle.list.specs.Answered.{Answered};
 use libc::STDIN_FILENO;
 
 fn main() {
     let mut input = printing::input_buffer();
-    let got = streams::read(STDIN_FILENO, b"standard input", &mut input);
+    answer(&mut input);
+}
+
+// Whether the input came without a failure and all of its output was taken. After a read that failed nothing is printed.
+fn answer(input: &mut [u8]) -> bool
+    ensures { λ r. ⌜ Answered (now (input .exit)) r ⌝ }
+{
+    let got = streams::read(STDIN_FILENO, b"standard input", input);
     let n = got.at;
-    if !got.failed {
-        printing::print_list(&input[..n]);
+    if got.failed {
+        return false;
     }
+    printing::print_list(&input[..n])
 }
