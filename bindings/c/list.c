@@ -26,17 +26,10 @@ int main(void) {
         for (size_t i = 0; i < count; i++) {
             bowujita_point p = {v[4 * i], v[4 * i + 1], v[4 * i + 2], v[4 * i + 3]};
             uint32_t e = bowujita_exponent(p, s.k);
-            printf("%d %d %d %d %" PRIu32 " %" PRIu64 "\n", p.a, p.b, p.c, p.d, e, bowujita_pulses(e));
+            printf("%" PRId32 " %" PRId32 " %" PRId32 " %" PRId32 " %" PRIu32 " %" PRIu64 "\n", p.a, p.b, p.c, p.d, e, bowujita_pulses(e));
         }
         total += count;
     }
     printf("end %" PRIu64 "\n", total);
-    bowujita_reply best = bowujita_shortest(s);
-    if (best.kind == BOWUJITA_LEAST) {
-        uint8_t first[128], second[128];
-        bowujita_word w = bowujita_words(best.scale, best.u, best.t, first, sizeof first, second, sizeof second);
-        fprintf(stderr, "shortest: scale %d, u %d %d %d %d, t %d %d %d %d, %.*s\n", best.scale, best.u.a, best.u.b, best.u.c, best.u.d,
-                best.t.a, best.t.b, best.t.c, best.t.d, (int)w.length, (const char *)(w.second ? second : first));
-    }
     return fflush(stdout) ? (perror("list"), 1) : 0;
 }

@@ -1,4 +1,4 @@
-//! All grid points of a job, each once, in order; and the shortest pattern: a safe wrapper of the proved library.
+//! All grid points of a job, each once, in order; and the shortest pattern: a safe wrapper of the proved library. `docs/SPEC.md` says what each call does.
 //!
 //! ```
 //! use bowujita::Session;
@@ -11,10 +11,20 @@
 //! ```
 #![no_std]
 
+#[cfg(doctest)]
+extern crate std;
+
 pub mod raw;
 
-use core::fmt;
-pub use raw::Interval;
+mod error;
+mod session;
+
+pub use error::Error;
+pub use raw::{Interval, Operator, Tariff, Wide, WidePoint};
+pub use session::{Points, Session};
+
+/// The number of the structs and calls that this crate is written for; `raw::bowujita_abi` answers that of the archive.
+pub const ABI: u32 = 1;
 
 /// aω³ + bω² + cω + d.
 #[repr(C)]
@@ -26,65 +36,12 @@ pub struct Point {
     pub d: i32,
 }
 
-/// Why a call did nothing; the discriminants are the numbers of SPEC, "Refusals".
-#[derive(Clone, Copy, Debug, PartialEq, Eq, Hash)]
-#[repr(u8)]
-#[non_exhaustive]
-pub enum Refusal {
-    NoKind = 1,
-    UnknownKind = 2,
-    Short = 3,
-    OutOfRange = 4,
-    NotPositive = 5,
-    OddParity = 6,
-    NotSpecial = 7,
-    OutOfTurn = 8,
-    NoJob = 9,
-    Ended = 10,
-    NoDirection = 11,
-    NotUnitary = 12,
-    NoRoom = 13,
-    NoPattern = 14,
-}
-
-impl Refusal {
-    pub fn number(self) -> u8 {
-        self as u8
-    }
-
-    fn check(number: u8) -> Result<(), Refusal> {
-        use Refusal::*;
-        let all = [NoKind, UnknownKind, Short, OutOfRange, NotPositive, OddParity, NotSpecial, OutOfTurn, NoJob, Ended, NoDirection, NotUnitary, NoRoom, NoPattern];
-        match number {
-            0 => Ok(()),
-            n => Err(all[n as usize - 1]),
-        }
+impl Point {
+    /// The exponent of this point over √2^k.
+    pub fn exponent(self, k: u8) -> u32 {
+        unsafe { raw::bowujita_exponent(self, k) }
     }
 }
-
-impl fmt::Display for Refusal {
-    fn fmt(&self, f: &mut fmt::Formatter<'_>) -> fmt::Result {
-        let why = match self {
-            Refusal::NoKind => "no byte to read",
-            Refusal::UnknownKind => "the kind is not 01 to 06",
-            Refusal::Short => "the record is cut short",
-            Refusal::OutOfRange => "a field is out of its range",
-            Refusal::NotPositive => "PR - Q^2 is below 1",
-            Refusal::OddParity => "an operator has an odd parity sum",
-            Refusal::NotSpecial => "an operator is not special",
-            Refusal::OutOfTurn => "a record stands out of its turn",
-            Refusal::NoJob => "scale, A and B are not all there",
-            Refusal::Ended => "the end was reported",
-            Refusal::NoDirection => "a slice has no direction",
-            Refusal::NotUnitary => "u and t make no unitary matrix",
-            Refusal::NoRoom => "a word is longer than its slice",
-            Refusal::NoPattern => "no pattern up to the job's scale",
-        };
-        write!(f, "refused {}: {why}", self.number())
-    }
-}
-
-impl core::error::Error for Refusal {}
 
 /// A hand-out: how many points or pairs were written, and whether the end is reached.
 #[derive(Clone, Copy, Debug, PartialEq, Eq)]
@@ -101,144 +58,15 @@ pub struct Pattern {
     pub t: Point,
 }
 
-/// A job and the place of its walk: plain numbers, to be copied at will.
-#[derive(Clone, Copy, Debug, Default, PartialEq, Eq)]
-pub struct Session {
-    state: raw::State,
-}
-
-impl Session {
-    /// A session that has read nothing.
-    pub fn new() -> Session {
-        Session::default()
-    }
-
-    /// Any numbers are some session.
-    pub fn from_raw(state: raw::State) -> Session {
-        Session { state }
-    }
-
-    pub fn as_raw(&self) -> &raw::State {
-        &self.state
-    }
-
-    fn left(&mut self, l: raw::Left) -> Result<raw::Reply, Refusal> {
-        self.state = l.state;
-        Refusal::check(l.reply.number).map(|()| l.reply)
-    }
-
-    /// One record from the front of the bytes; the number of bytes taken.
-    pub fn read(&mut self, bytes: &[u8]) -> Result<usize, Refusal> {
-        let l = unsafe { raw::bowujita_read(self.state, bytes.as_ptr(), bytes.len()) };
-        self.left(l).map(|r| r.count)
-    }
-
-    /// Every record of a whole input; a refusal comes with its place, that of a job that is not whole (9) with the input's length.
-    pub fn read_all(&mut self, bytes: &[u8]) -> Result<(), (Refusal, usize)> {
-        let mut at = 0;
-        while at < bytes.len() {
-            at += self.read(&bytes[at..]).map_err(|f| (f, at))?;
-        }
-        if self.state.stage == 4 { Ok(()) } else { Err((Refusal::NoJob, at)) }
-    }
-
-    /// As many of the next points as there is space for, four numbers each.
-    pub fn hand_out(&mut self, numbers: &mut [i32]) -> Result<Handed, Refusal> {
-        let l = unsafe { raw::bowujita_hand_out(self.state, numbers.as_mut_ptr(), numbers.len()) };
-        self.left(l).map(|r| Handed { count: r.count, ended: r.flag != 0 })
-    }
-
-    /// Back before the first point.
-    pub fn rewind(&mut self) -> Result<(), Refusal> {
-        let l = unsafe { raw::bowujita_rewind(self.state) };
-        self.left(l).map(|_| ())
-    }
-
-    /// A fresh session again.
-    pub fn clear(&mut self) {
-        self.state = unsafe { raw::bowujita_clear(self.state) }.state;
-    }
-
-    fn says(r: raw::Reply) -> Result<bool, Refusal> {
-        Refusal::check(r.number).map(|()| r.flag != 0)
-    }
-
-    /// Whether the job lists a point.
-    pub fn has_solution(&self) -> Result<bool, Refusal> {
-        Session::says(unsafe { raw::bowujita_has_solution(self.state) })
-    }
-
-    /// Whether w is what the remembered operator makes of a listed point.
-    pub fn has_image(&self, w: Point) -> Result<bool, Refusal> {
-        Session::says(unsafe { raw::bowujita_has_image(self.state, w) })
-    }
-
-    /// The shortest pattern that the job allows.
-    pub fn shortest(&self) -> Result<Pattern, Refusal> {
-        let r = unsafe { raw::bowujita_shortest(self.state) };
-        Refusal::check(r.number).map(|()| Pattern { scale: r.scale, u: r.u, t: r.t })
-    }
-
-    /// The points that are left, from a copy of the session: this one does not move.
-    pub fn points(&self) -> Result<Points, Refusal> {
-        let mut p = Points { session: *self, numbers: [0; 256], at: 0, count: 0, ended: false };
-        p.fill()?;
-        Ok(p)
-    }
-
-    /// The scale of the job, 0 where there is none.
-    pub fn scale(&self) -> u8 {
-        self.state.k
-    }
-}
-
-/// The points that a session has left.
-#[derive(Clone, Debug)]
-pub struct Points {
-    session: Session,
-    numbers: [i32; 256],
-    at: usize,
-    count: usize,
-    ended: bool,
-}
-
-impl Points {
-    fn fill(&mut self) -> Result<(), Refusal> {
-        let h = self.session.hand_out(&mut self.numbers)?;
-        self.at = 0;
-        self.count = h.count;
-        self.ended = h.ended;
-        Ok(())
-    }
-}
-
-impl Iterator for Points {
-    type Item = Point;
-
-    fn next(&mut self) -> Option<Point> {
-        if self.at == self.count {
-            if self.ended || self.fill().is_err() || self.count == 0 {
-                return None;
-            }
-        }
-        let n = &self.numbers[4 * self.at..];
-        self.at += 1;
-        Some(Point { a: n[0], b: n[1], c: n[2], d: n[3] })
-    }
-}
-
-impl core::iter::FusedIterator for Points {}
-
 /// The sign of p + q√2.
 pub fn sign(p: i64, q: i64) -> core::cmp::Ordering {
     unsafe { raw::bowujita_sign(p, q) }.cmp(&0)
 }
 
-impl Point {
-    /// The exponent of this point over √2^k.
-    pub fn exponent(self, k: u8) -> u32 {
-        unsafe { raw::bowujita_exponent(self, k) }
-    }
+/// The same for 128-bit numbers.
+pub fn wide_sign(p: i128, q: i128) -> core::cmp::Ordering {
+    let wide = |x: i128| Wide { hi: (x >> 64) as i64, lo: x as u64 };
+    unsafe { raw::bowujita_wide_sign(wide(p), wide(q)) }.cmp(&0)
 }
 
 /// The pulse count of an exponent.
@@ -247,23 +75,122 @@ pub fn pulses(e: u32) -> u64 {
 }
 
 /// The words of U and of TUT† at the front of two slices; handed back is the one with fewer T.
-pub fn words<'a>(k: u8, u: Point, t: Point, first: &'a mut [u8], second: &'a mut [u8]) -> Result<&'a [u8], Refusal> {
+///
+/// ```
+/// use bowujita::{words, Point};
+/// let u = Point { a: 0, b: -1, c: -1, d: 1 };
+/// let t = Point { a: 0, b: 1, c: 0, d: 0 };
+/// let (mut first, mut second) = ([0; 64], [0; 64]);
+/// assert_eq!(words(2, u, t, &mut first, &mut second), Ok(&b"HTSHTSSHSHWWW"[..]));
+/// ```
+pub fn words<'a>(k: u8, u: Point, t: Point, first: &'a mut [u8], second: &'a mut [u8]) -> Result<&'a [u8], Error> {
     let w = unsafe { raw::bowujita_words(k, u, t, first.as_mut_ptr(), first.len(), second.as_mut_ptr(), second.len()) };
-    Refusal::check(w.number)?;
+    Error::check(w.number)?;
     Ok(if w.second != 0 { &second[..w.length] } else { &first[..w.length] })
 }
 
-fn handed(h: raw::Handed) -> Result<Handed, Refusal> {
-    Refusal::check(h.number).map(|()| Handed { count: h.count, ended: h.ended != 0 })
+fn handed(h: raw::Handed) -> Result<Handed, Error> {
+    Error::check(h.number).map(|()| Handed { count: h.count, ended: h.ended != 0 })
 }
 
 /// All t that make a first column with u at scale k, after a place or from the beginning.
-pub fn entry(k: u8, u: Point, after: Option<Point>, numbers: &mut [i32]) -> Result<Handed, Refusal> {
+pub fn entry(k: u8, u: Point, after: Option<Point>, numbers: &mut [i32]) -> Result<Handed, Error> {
     handed(unsafe { raw::bowujita_entry(k, u, after.is_some() as u8, after.unwrap_or_default(), numbers.as_mut_ptr(), numbers.len()) })
 }
 
 /// The pairs of a line problem, after a place or from the beginning.
-pub fn line(first: Interval, second: Interval, after: Option<(i32, i32)>, numbers: &mut [i32]) -> Result<Handed, Refusal> {
+pub fn line(first: Interval, second: Interval, after: Option<(i32, i32)>, numbers: &mut [i32]) -> Result<Handed, Error> {
     let (a, b) = after.unwrap_or_default();
     handed(unsafe { raw::bowujita_line(first, second, after.is_some() as u8, a, b, numbers.as_mut_ptr(), numbers.len()) })
+}
+
+impl Operator {
+    /// The test of an operator.
+    pub fn test(self) -> Result<(), Error> {
+        Error::check(unsafe { raw::bowujita_operator_test(self) })
+    }
+
+    /// What an operator makes of a point.
+    pub fn image(self, v: Point) -> WidePoint {
+        unsafe { raw::bowujita_image(self, v) }
+    }
+
+    /// The inverse of an operator that passes the test.
+    pub fn inverse(self) -> Result<Operator, Error> {
+        let r = unsafe { raw::bowujita_inverse(self) };
+        Error::check(r.number).map(|()| r.operator)
+    }
+}
+
+/// Whole ticks, and whether the memory has as many.
+#[derive(Clone, Copy, Debug, PartialEq, Eq)]
+pub struct Cost {
+    pub ticks: u32,
+    pub fits: bool,
+}
+
+impl Tariff {
+    fn costs(r: raw::Ticks) -> Result<Cost, Error> {
+        Error::check(r.number).map(|()| Cost { ticks: r.ticks, fits: r.fits != 0 })
+    }
+
+    /// What a word costs.
+    pub fn cost(self, word: &[u8], memory: u32) -> Result<Cost, Error> {
+        Tariff::costs(unsafe { raw::bowujita_cost(self, word.as_ptr(), word.len(), memory) })
+    }
+
+    /// What one to eight words cost together, each closed by a line feed.
+    ///
+    /// ```
+    /// use bowujita::{Cost, Tariff};
+    /// let t = Tariff { h: 1500, s: 400, t: 7000, w: 0 };
+    /// assert_eq!(t.cost(b"HTS", 10), Ok(Cost { ticks: 9, fits: true }));
+    /// assert_eq!(t.tray_cost(b"HTS\nS\n", 9), Ok(Cost { ticks: 10, fits: false }));
+    /// ```
+    pub fn tray_cost(self, words: &[u8], memory: u32) -> Result<Cost, Error> {
+        Tariff::costs(unsafe { raw::bowujita_tray_cost(self, words.as_ptr(), words.len(), memory) })
+    }
+}
+
+/// A word as lines of OpenQASM 2.0 at the front of a slice.
+///
+/// ```
+/// use bowujita::{qasm, word};
+/// let mut text = [0; 64];
+/// assert_eq!(qasm(b"HTW", &mut text), Ok(&b"t q[0];\nh q[0];\n"[..]));
+/// let mut letters = [0; 8];
+/// assert_eq!(word(b"t q[0];\nh q[0];\n", &mut letters), Ok(&b"HT"[..]));
+/// ```
+pub fn qasm<'a>(word: &[u8], text: &'a mut [u8]) -> Result<&'a [u8], Error> {
+    let r = unsafe { raw::bowujita_qasm_write(word.as_ptr(), word.len(), text.as_mut_ptr(), text.len()) };
+    Error::check(r.number).map(|()| &text[..r.count])
+}
+
+/// The word of such lines, at the front of a slice.
+pub fn word<'a>(text: &[u8], word: &'a mut [u8]) -> Result<&'a [u8], Error> {
+    let r = unsafe { raw::bowujita_qasm_read(text.as_ptr(), text.len(), word.as_mut_ptr(), word.len()) };
+    Error::check(r.number).map(|()| &word[..r.count])
+}
+
+/// All that is written on a pattern sheet.
+#[derive(Clone, Copy, Debug, PartialEq, Eq)]
+pub struct Sheet {
+    pub k: u8,
+    pub u: Point,
+    pub t: Point,
+    pub ticks: u32,
+}
+
+impl Sheet {
+    /// One sheet from the front of the bytes, as the desk sees it, and the bytes taken.
+    pub fn read(bytes: &[u8]) -> Result<(Sheet, usize), Error> {
+        let r = unsafe { raw::bowujita_sheet_read(1, bytes.as_ptr(), bytes.len()) };
+        Error::check(r.number).map(|()| (Sheet { k: r.k, u: r.u, t: r.t, ticks: r.ticks }, r.taken))
+    }
+
+    /// The pulse count and the ticks of one sheet, which is all that the line crew sees, and the bytes taken.
+    pub fn read_as_crew(bytes: &[u8]) -> Result<(u64, u32, usize), Error> {
+        let r = unsafe { raw::bowujita_sheet_read(2, bytes.as_ptr(), bytes.len()) };
+        Error::check(r.number).map(|()| (r.m, r.ticks, r.taken))
+    }
 }

@@ -1,6 +1,5 @@
-//! What the library hands out, beside what the list program prints: 200 random inputs, most of them whole jobs.
-use bowujita::{pulses, raw, Point, Refusal, Session};
-use std::fmt::Write as _;
+//! The library beside the peer, on random jobs and random lists of calls, refused ones among them; and what has to hold of any session.
+use bowujita::{pulses, raw, Error, Point, Session};
 use std::io::Write as _;
 use std::process::{Command, Stdio};
 
@@ -75,44 +74,141 @@ fn job(r: &mut Random) -> Vec<u8> {
     out
 }
 
-/// What the list program would print, by way of the library.
-fn listed(input: &[u8]) -> String {
-    let mut s = Session::new();
-    if let Err((f, at)) = s.read_all(input) {
-        return format!("refused {} at {at}\n", f.number());
+/// The answer to a call by a line of text, as the peer's `session` mode has it.
+fn answer(s: &mut Session, line: &str) -> String {
+    let words: Vec<&str> = line.split(' ').collect();
+    let said = |yes| if yes { " yes" } else { " no" };
+    let four = |v: Point| format!(" {} {} {} {}", v.a, v.b, v.c, v.d);
+    let answer = match words[0] {
+        "read" => s.read(&hex(words.get(1).unwrap_or(&""))).map(|n| format!(" {n}")),
+        "hand" => {
+            let mut numbers = vec![7; words[1].parse().unwrap()];
+            s.hand_out(&mut numbers).map(|h| {
+                assert!(numbers[4 * h.count..].iter().all(|&x| x == 7));
+                numbers[..4 * h.count].iter().fold(format!(" {}{}", h.count, said(h.ended)), |t, x| t + &format!(" {x}"))
+            })
+        }
+        "rewind" => s.rewind().map(|()| String::new()),
+        "clear" => {
+            s.clear();
+            Ok(String::new())
+        }
+        "plain" => s.has_solution().map(|yes| said(yes).into()),
+        "image" => {
+            let n: Vec<i32> = words[1..].iter().map(|w| w.parse().unwrap()).collect();
+            s.has_image(Point { a: n[0], b: n[1], c: n[2], d: n[3] }).map(|yes| said(yes).into())
+        }
+        _ => s.shortest().map(|p| format!(" {}{}{}", p.scale, four(p.u), four(p.t))),
+    };
+    match answer {
+        Ok(text) => format!("ok{text}"),
+        Err(e) => format!("refused {}", e.number()),
     }
-    let k = s.scale();
-    let mut text = String::new();
-    let mut total = 0;
-    for v in s.points().unwrap() {
-        let e = v.exponent(k);
-        writeln!(text, "{} {} {} {} {e} {}", v.a, v.b, v.c, v.d, pulses(e)).unwrap();
-        total += 1;
-    }
-    writeln!(text, "end {total}").unwrap();
-    text
 }
 
-fn program(input: &[u8]) -> String {
-    let path = std::env::var("BOWUJITA_LIST").unwrap_or_else(|_| concat!(env!("CARGO_MANIFEST_DIR"), "/../../target/bin/list").into());
-    let mut p = Command::new(path).stdin(Stdio::piped()).stdout(Stdio::piped()).spawn().unwrap();
-    p.stdin.take().unwrap().write_all(input).unwrap();
-    String::from_utf8(p.wait_with_output().unwrap().stdout).unwrap()
+fn hex(digits: &str) -> Vec<u8> {
+    (0..digits.len() / 2).map(|i| u8::from_str_radix(&digits[2 * i..2 * i + 2], 16).unwrap()).collect()
+}
+
+fn digits(bytes: &[u8]) -> String {
+    bytes.iter().map(|b| format!("{b:02x}")).collect()
+}
+
+/// The records of a job, each in a reading of its own or with bytes behind it, and calls between and after them.
+fn calls(r: &mut Random, lines: &mut Vec<String>) {
+    let input = job(r);
+    let mut at = 0;
+    while at < input.len() {
+        let length = match input[at] {
+            1 | 6 => 2,
+            2 => 19,
+            3 => 21,
+            4 => 17,
+            5 => 11,
+            _ => input.len(),
+        };
+        let end = (at + length).min(input.len());
+        lines.push(format!("read {}", digits(&input[at..if r.within(0, 4) == 0 { input.len() } else { end }])));
+        if r.within(0, 5) == 0 {
+            call(r, lines);
+        }
+        at = end;
+    }
+    for _ in 0..r.within(2, 6) {
+        call(r, lines);
+    }
+    lines.push("clear".into());
+}
+
+fn call(r: &mut Random, lines: &mut Vec<String>) {
+    lines.push(match r.within(0, 8) {
+        0 => "rewind".into(),
+        1 => "plain".into(),
+        2 => format!("image {} {} {} {}", r.within(-3, 3), r.within(-3, 3), r.within(-3, 3), r.within(-3, 3)),
+        3 => "shortest".into(),
+        4 => "read 0410".into(),
+        5 => "read".into(),
+        _ => format!("hand {}", [0, 3, 8, 41, 4096][r.within(0, 4) as usize]),
+    });
+}
+
+fn peer(lines: &[String]) -> Vec<String> {
+    let path = std::env::var("BOWUJITA_PEER").unwrap_or_else(|_| concat!(env!("CARGO_MANIFEST_DIR"), "/../../peer/target/release/peer").into());
+    let mut p = Command::new(path).arg("session").stdin(Stdio::piped()).stdout(Stdio::piped()).spawn().unwrap();
+    let mut input = p.stdin.take().unwrap();
+    let text = lines.join("\n") + "\n";
+    let writer = std::thread::spawn(move || input.write_all(text.as_bytes()).unwrap());
+    let output = p.wait_with_output().unwrap().stdout;
+    writer.join().unwrap();
+    String::from_utf8(output).unwrap().lines().map(String::from).collect()
 }
 
 #[test]
-fn as_the_list_program() {
+fn as_the_peer() {
     let mut r = Random(20261117);
-    let (mut points, mut refused) = (0, 0);
-    for i in 0..200 {
-        let input = job(&mut r);
-        let text = listed(&input);
-        assert_eq!(text, program(&input), "input {i}: {input:02x?}");
-        points += text.lines().count() - 1;
-        refused += text.starts_with("refused") as usize;
+    let mut lines = Vec::new();
+    for _ in 0..2000 {
+        calls(&mut r, &mut lines);
     }
-    eprintln!("200 inputs, {refused} refused, {points} points");
-    assert!(points > 1000 && refused > 5 && refused < 100);
+    let theirs = peer(&lines);
+    assert_eq!(theirs.len(), lines.len());
+    let mut s = Session::new();
+    let mut refused = 0;
+    for (i, line) in lines.iter().enumerate() {
+        let mine = answer(&mut s, line);
+        assert_eq!(mine, theirs[i], "call {i}: {line}");
+        refused += mine.starts_with("refused") as usize;
+    }
+    eprintln!("2,000 jobs, {} calls, {refused} refused", lines.len());
+    assert!(refused > 500 && refused < lines.len() / 2);
+}
+
+/// The tally is that of the points.
+#[test]
+fn tallies() {
+    let mut r = Random(3);
+    let mut some = 0;
+    for _ in 0..300 {
+        let mut job = vec![1, r.within(0, 3) as u8, 6, 1];
+        region(&mut r, &mut job);
+        region(&mut r, &mut job);
+        let mut s = Session::new();
+        if s.read_all(&job).is_err() {
+            continue;
+        }
+        let points: Vec<Point> = s.points().unwrap().collect();
+        let mut counts = [0; 21];
+        for v in &points {
+            counts[v.exponent(s.scale()) as usize] += 1;
+        }
+        assert_eq!(s.tally(), [0; 21]);
+        s.hand_out(&mut vec![0; 4 * points.len()]).unwrap();
+        assert_eq!(s.tally(), counts);
+        s.rewind().unwrap();
+        assert_eq!(s.tally(), [0; 21]);
+        some += points.len();
+    }
+    assert!(some > 1000);
 }
 
 #[test]
@@ -138,32 +234,10 @@ fn small_slices() {
             ended = h.ended;
         }
         assert_eq!(got, whole);
-        assert_eq!(s.hand_out(&mut [0; 8]), Err(Refusal::Ended));
+        assert_eq!(s.hand_out(&mut [0; 8]), Err(Error::AfterEnd));
         s.rewind().unwrap();
         assert_eq!(s.points().unwrap().collect::<Vec<_>>(), whole);
         assert_eq!(s.has_solution(), Ok(!whole.is_empty()));
-    }
-}
-
-#[test]
-fn garbage_is_a_session() {
-    // any bytes are some session, and every call answers; small scales, so that none takes long
-    let mut r = Random(99);
-    for _ in 0..2000 {
-        let mut bytes = [0u8; core::mem::size_of::<raw::State>()];
-        for b in bytes.iter_mut() {
-            *b = if r.within(0, 3) == 0 { r.next() as u8 } else { r.within(0, 4) as u8 };
-        }
-        bytes[1] %= 4;
-        let state = unsafe { core::mem::transmute::<[u8; core::mem::size_of::<raw::State>()], raw::State>(bytes) };
-        let mut s = Session::from_raw(state);
-        let _ = s.has_solution();
-        let _ = s.has_image(Point { a: 1, b: -1, c: 0, d: 2 });
-        let _ = s.hand_out(&mut [0; 8]);
-        let _ = s.read(&bytes[..21]);
-        let _ = s.rewind();
-        s.clear();
-        assert_eq!(s, Session::new());
     }
 }
 
@@ -184,25 +258,25 @@ fn stateless() {
     let h = bowujita::line(first, second, Some((1, 0)), &mut pairs).unwrap();
     assert_eq!((h.count, h.ended), (3, true));
     assert_eq!(pairs[..6], [1, 1, 2, 1, 2, 2]);
-    assert_eq!(bowujita::line(bowujita::Interval { n: 0, lo: 0, hi: 5 }, second, None, &mut pairs), Err(Refusal::OutOfRange));
+    assert_eq!(bowujita::line(bowujita::Interval { n: 0, lo: 0, hi: 5 }, second, None, &mut pairs), Err(Error::OutOfRange));
     let u = Point { a: 0, b: -1, c: -1, d: 1 };
     let t = Point { a: 0, b: 1, c: 0, d: 0 };
     let (mut one, mut two) = ([0; 15], [0; 13]);
     assert_eq!(bowujita::words(2, u, t, &mut one, &mut two), Ok(&b"HTSHTSSHSHWWW"[..]));
-    assert_eq!(bowujita::words(2, u, t, &mut one[..14], &mut two), Err(Refusal::NoRoom));
-    assert_eq!(bowujita::words(2, u, u, &mut one, &mut two), Err(Refusal::NotUnitary));
+    assert_eq!(bowujita::words(2, u, t, &mut one[..14], &mut two), Err(Error::NoRoom));
+    assert_eq!(bowujita::words(2, u, u, &mut one, &mut two), Err(Error::NotUnitary));
     let mut numbers = [0; 64];
     let h = bowujita::entry(2, u, None, &mut numbers).unwrap();
     assert!(numbers[..4 * h.count].chunks(4).any(|c| c == [0, 1, 0, 0]));
 }
 
 #[test]
-fn readme() {
+fn shortest_of_the_paper() {
+    assert_eq!(unsafe { raw::bowujita_abi() }, bowujita::ABI);
     let mut s = Session::new();
-    let hex = |t: &str| (0..t.len() / 2).map(|i| u8::from_str_radix(&t[2 * i..2 * i + 2], 16).unwrap()).collect::<Vec<u8>>();
     assert_eq!(s.read(&hex("0114")), Ok(2));
     assert_eq!(s.read(&hex("053200bfffb9ffcd120000")), Ok(11));
-    assert_eq!(s.shortest(), Err(Refusal::NoJob));
+    assert_eq!(s.shortest(), Err(Error::NoJob));
     assert_eq!(s.read(&hex("030100000000000000000001000000010001000000")), Ok(21));
     let p = s.shortest().unwrap();
     assert_eq!(p.scale, 15);

@@ -16,9 +16,14 @@ use Rattle.gate_words.specs.declared.Part.{Part}
 use Rattle.gate_words.specs.Words.{Hands}
 use Rattle.numbers.specs.declared.Four.{Four}
 use Rattle.numbers.specs.Numbers.{isSet, pointOf}
-use Rattle.bowujita.specs.declared.Handed.{Handed}
-use Rattle.bowujita.specs.declared.Word.{Word}
-use Rattle.bowujita.specs.declared.Three.{Three}
+use Rattle.words.specs.declared.Wide.{Wide}
+use Rattle.bowujita.specs.declared.alone.TwoWords.{TwoWords}
+use Rattle.bowujita.specs.declared.alone.Handed.{Handed}
+use Rattle.bowujita.specs.declared.alone.Word.{Word}
+use Rattle.bowujita.specs.declared.alone.Three.{Three}
+
+abbrev pub wideOf : TwoWords → Wide
+wideOf x = record { hi = x .hi; lo = x .lo }
 
 abbrev pub entryPlace : ℕ → Four → EP.Place
 entryPlace after v = cond (eqb after 0) E.Beginning (E.After (pointOf v))

@@ -1,18 +1,48 @@
-// The calls without a session.
+// Signs, exponents, pulses, words, first columns and line problems: calls without a session.
 ghost use mathlib.Core.Path.{_≡_};
 ghost use mathlib.Core.Bool.{false};
 ghost use Rattle.refusals.specs.Refusals.{outOfRange};
+ghost use Rattle.words.specs.Meaning.{meaning};
 ghost use Rattle.ring.specs.Sign.{signNumber};
 ghost use Rattle.ring.specs.Point.Exponent.{exponentOf, pulseCount};
 ghost use Rattle.numbers.specs.Numbers.{pointOf};
-ghost use Rattle.bowujita.specs.Alone.{entryPlace, linePlace, intervalOf, Entered, Lined, Spelled, handedAs};
-use crate::Handed;
-use crate::Three;
-use crate::Word;
+ghost use Rattle.bowujita.specs.Alone.{wideOf, entryPlace, linePlace, intervalOf, Entered, Lined, Spelled, handedAs};
 use entry::Place;
 use line::Interval;
 use numbers::Four;
 use ring::Sign;
+use words::Wide;
+
+// hi·2^64 + lo, a number of two words.
+#[repr(C)]
+pub struct TwoWords {
+    pub hi: i64,
+    pub lo: u64,
+}
+
+// A hand-out's count and end, or the number of its refusal.
+#[repr(C)]
+pub struct Handed {
+    pub number: u8,
+    pub ended: u8,
+    pub count: usize,
+}
+
+// The number of a refusal, or which slice has the word with fewer T, 0 the first, and how long it is.
+#[repr(C)]
+pub struct Word {
+    pub number: u8,
+    pub second: u8,
+    pub length: usize,
+}
+
+// lo ≤ n·z ≤ hi.
+#[repr(C)]
+pub struct Three {
+    pub n: i32,
+    pub lo: i32,
+    pub hi: i32,
+}
 
 // The sign of p + q√2: −1, 0 or 1.
 #[no_mangle]
@@ -20,6 +50,25 @@ pub extern "C" fn bowujita_sign(p: i64, q: i64) -> i32
     ensures { λ r. ⌜ r ≡ signNumber p q ⌝ }
 {
     let s = signs::sign_of(p, q);
+    match s {
+        Sign::Minus => -1,
+        Sign::Zero => 0,
+        Sign::Plus => 1,
+    }
+}
+
+fn wide(x: TwoWords) -> Wide
+    ensures { λ r. ⌜ r ≡ wideOf x ⌝ }
+{
+    Wide { hi: x.hi, lo: x.lo }
+}
+
+// The same for numbers of two words.
+#[no_mangle]
+pub extern "C" fn bowujita_wide_sign(p: TwoWords, q: TwoWords) -> i32
+    ensures { λ r. ⌜ r ≡ signNumber (meaning (wideOf p)) (meaning (wideOf q)) ⌝ }
+{
+    let s = signs::wide_sign_of(wide(p), wide(q));
     match s {
         Sign::Minus => -1,
         Sign::Zero => 0,

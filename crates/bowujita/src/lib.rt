@@ -1,45 +1,32 @@
-// The library for callers that are not Rattle: include/bowujita.h, bindings/rust. A session goes in and comes out by value, as plain numbers.
-ghost use mathlib.Core.List.{[]};
+// The library for callers that are not Rattle: SPEC, "Library"; include/bowujita.h, bindings/. Every public entry is here, and nothing else. Sessions go in and come out by value, as plain numbers.
+ghost use mathlib.Core.Path.{_≡_};
 ghost use Rattle.calls.specs.Session.{reading, rewind, clear, plain, imageOf, shortest};
 ghost use Rattle.numbers.specs.Numbers.{pointOf};
-ghost use Rattle.bowujita.specs.Calls.{Leaves, Fills, Asks, LeftOf};
+ghost use Rattle.bowujita.specs.Calls.{LeftOf, Leaves, Fills, Asks};
 
 mod alone;
+mod companions;
+mod operators;
 
+use numbers::Counts;
 use numbers::Four;
 use numbers::Reply;
 use numbers::State;
-use session::Outcome;
+use tallied::Outcome;
 
 // The session that a call leaves, and its answer.
 #[repr(C)]
 pub struct Left {
-    pub state: State,
+    pub session: State,
     pub reply: Reply,
 }
 
-// A hand-out's count and end, or the number of its refusal.
-#[repr(C)]
-pub struct Handed {
-    pub number: u8,
-    pub ended: u8,
-    pub count: usize,
-}
-
-// The number of a refusal, or which slice has the word with fewer T, 0 the first, and how long it is.
-#[repr(C)]
-pub struct Word {
-    pub number: u8,
-    pub second: u8,
-    pub length: usize,
-}
-
-// lo ≤ n·z ≤ hi.
-#[repr(C)]
-pub struct Three {
-    pub n: i32,
-    pub lo: i32,
-    pub hi: i32,
+// The number of this table of calls and structs: BOWUJITA_ABI of the header.
+#[no_mangle]
+pub extern "C" fn bowujita_abi() -> u32
+    ensures { λ r. ⌜ r ≡ 1 ⌝ }
+{
+    1
 }
 
 fn leaving(o: Outcome) -> Left
@@ -47,10 +34,10 @@ fn leaving(o: Outcome) -> Left
 {
     let s = o.session;
     let a = o.answer;
-    let state = numbers::state_of(s);
+    let session = numbers::state_of(s);
     let reply = numbers::reply_of(a);
     Left {
-        state: state,
+        session: session,
         reply: reply,
     }
 }
@@ -58,9 +45,9 @@ fn leaving(o: Outcome) -> Left
 // One reading: a record from the front of the bytes joins the session, or is refused.
 #[no_mangle]
 pub extern "C" fn bowujita_read(s: State, bytes: &[u8]) -> Left
-    ensures { λ r. ⌜ Leaves (reading (now (bytes .entry))) [] s r ⌝ }
+    ensures { λ r. ⌜ Leaves (reading (now (bytes .entry))) s r ⌝ }
 {
-    leaving(session::read(numbers::session_of(s), bytes))
+    leaving(tallied::read(numbers::session_of(s), bytes))
 }
 
 // A hand-out: as many of the next listed points as the slice has space for.
@@ -68,23 +55,23 @@ pub extern "C" fn bowujita_read(s: State, bytes: &[u8]) -> Left
 pub extern "C" fn bowujita_hand_out(s: State, out: &mut [i32]) -> Left
     ensures { λ r. ⌜ Fills s (now (out .entry)) (now (out .exit)) r ⌝ }
 {
-    leaving(session::hand_out(numbers::session_of(s), out))
+    leaving(tallied::hand_out(numbers::session_of(s), out))
 }
 
 // Back before the first point.
 #[no_mangle]
 pub extern "C" fn bowujita_rewind(s: State) -> Left
-    ensures { λ r. ⌜ Leaves rewind [] s r ⌝ }
+    ensures { λ r. ⌜ Leaves rewind s r ⌝ }
 {
-    leaving(session::rewind(numbers::session_of(s)))
+    leaving(tallied::rewind(numbers::session_of(s)))
 }
 
 // A fresh session.
 #[no_mangle]
 pub extern "C" fn bowujita_clear(s: State) -> Left
-    ensures { λ r. ⌜ Leaves clear [] s r ⌝ }
+    ensures { λ r. ⌜ Leaves clear s r ⌝ }
 {
-    leaving(session::clear(numbers::session_of(s)))
+    leaving(tallied::clear(numbers::session_of(s)))
 }
 
 // Whether the job lists a point.
@@ -92,7 +79,7 @@ pub extern "C" fn bowujita_clear(s: State) -> Left
 pub extern "C" fn bowujita_has_solution(s: State) -> Reply
     ensures { λ r. ⌜ Asks plain s r ⌝ }
 {
-    numbers::reply_of(session::has_solution(numbers::session_of(s)))
+    numbers::reply_of(tallied::has_solution(numbers::session_of(s)))
 }
 
 // Whether w is what the remembered operator makes of a listed point.
@@ -100,7 +87,7 @@ pub extern "C" fn bowujita_has_solution(s: State) -> Reply
 pub extern "C" fn bowujita_has_image(s: State, w: Four) -> Reply
     ensures { λ r. ⌜ Asks (imageOf (pointOf w)) s r ⌝ }
 {
-    numbers::reply_of(session::has_image(numbers::session_of(s), numbers::point_of(w)))
+    numbers::reply_of(tallied::has_image(numbers::session_of(s), numbers::point_of(w)))
 }
 
 // The shortest pattern that the job allows.
@@ -108,5 +95,13 @@ pub extern "C" fn bowujita_has_image(s: State, w: Four) -> Reply
 pub extern "C" fn bowujita_shortest(s: State) -> Reply
     ensures { λ r. ⌜ Asks shortest s r ⌝ }
 {
-    numbers::reply_of(session::shortest(numbers::session_of(s)))
+    numbers::reply_of(tallied::shortest(numbers::session_of(s)))
+}
+
+// How many of the points handed out since the last rewind or clearing have each exponent.
+#[no_mangle]
+pub extern "C" fn bowujita_tally(s: State) -> Counts
+    ensures { λ r. ⌜ r ≡ s .tally ⌝ }
+{
+    s.tally
 }

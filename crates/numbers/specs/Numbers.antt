@@ -1,11 +1,11 @@
--- What plain numbers mean as a session and as an answer. Every value of the structs has a meaning.
-use mathlib.Core.Path.{_≡_, refl, ap}
-use mathlib.Core.Bool.{Bool, not, cond}
-use mathlib.Core.List.{List}
+-- What plain numbers mean as the bench's session: SPEC, "Library". Every value of the struct has a meaning. And an answer as plain numbers.
+use mathlib.Core.Path.{_≡_, refl, sym, ap, ap₂, _∙_}
+use mathlib.Core.Bool.{Bool, true, false, not, cond}
+use mathlib.Core.List.{List, [], _∷_, map}
 use Prim.Native.Nat.{ℕ}
 use lib.Dec.{eqb}
 use borrow.Author.Tests.{ne-eqb}
-use lib.IntN.{ℤ}
+use lib.IntN.{ℤ, pos}
 use Rattle.ring.specs.declared.Point.{Point}
 use Rattle.operator.specs.declared.Operator.{Operator}
 use Rattle.region.specs.declared.Rectangle.{Rectangle}
@@ -17,6 +17,9 @@ use Rattle.lists.specs.declared.Spot.{Spot}
 use Rattle.lists.specs.declared.Spot.the-variants as P
 use Rattle.calls.specs.Session.{refused, taken, handed, done, says, best}
 use Rattle.calls.specs.Session as Model
+use Rattle.words.specs.declared.Size.{Size}
+use Rattle.tally.specs.declared.Tally.{Tally}
+use Rattle.tallied.specs.declared.Tallied.{Tallied}
 use Rattle.stages.specs.declared.Parts.the-variants.{Nothing, Scaled, Selected, First}
 use Rattle.stages.specs.declared.Course.{Course}
 use Rattle.stages.specs.declared.Stage.{Stage}
@@ -24,10 +27,13 @@ use Rattle.stages.specs.declared.Stage.the-variants as S
 use Rattle.stages.specs.declared.Session.{Session}
 use Rattle.stages.specs.World.{world}
 use Rattle.stages.specs.declared.Answer.{Answer}
+use Rattle.stages.specs.declared.Answer.the-variants as A
 use Rattle.stages.specs.Session.{answerOf}
 use Rattle.numbers.specs.declared.Four.{Four}
 use Rattle.numbers.specs.declared.Eight.{Eight}
 use Rattle.numbers.specs.declared.Shape.{Shape}
+use Rattle.numbers.specs.declared.Count.{Count}
+use Rattle.numbers.specs.declared.Counts.{Counts}
 use Rattle.numbers.specs.declared.State.{State}
 use Rattle.numbers.specs.declared.Reply.{Reply}
 
@@ -72,18 +78,50 @@ stageOf s =
 abbrev pub sessionOf : State → Session
 sessionOf s = record { stage = stageOf s }
 
--- an answer, a hand-out's with the lent slice as it is then
-unfoldable pub replied : List ℤ → Reply → Model.Answer world
-replied l r =
-    cond (eqb (r .kind) 1) (taken (r .count))
-    (cond (eqb (r .kind) 2) (handed (r .count) (isSet (r .flag)) l)
-    (cond (eqb (r .kind) 3) done
-    (cond (eqb (r .kind) 4) (says (isSet (r .flag)))
-    (cond (eqb (r .kind) 5) (best (record { scale = r .scale; u = pointOf (r .u); t = pointOf (r .t) })) (refused (r .number))))))
+abbrev pub sizeFrom : Count → Size
+sizeFrom n = record { hi = n .hi; lo = n .lo }
 
--- the numbers of an answer, whatever slice was lent
-abbrev pub Tells : Answer → Reply → Type 0
-Tells a r = (l : List ℤ) → replied l r ≡ answerOf l a
+abbrev pub tallyOf : Counts → Tally
+tallyOf c = record { counts = map sizeFrom (c .counts) }
+
+-- the session with its counts
+abbrev pub benchOf : State → Tallied
+benchOf s = record { session = sessionOf s; tally = tallyOf (s .tally) }
+
+-- ---- numbers of what is meant
+abbrev pub bit : Bool → ℕ
+bit true = 1
+bit false = 0
+
+abbrev pub fourOf : Point → Four
+fourOf v = record { a = v .a; b = v .b; c = v .c; d = v .d }
+
+abbrev pub eightOf : Operator → Eight
+eightOf g = record { a = g .a; b = g .b; c = g .c; d = g .d; ai = g .ai; bi = g .bi; ci = g .ci; di = g .di }
+
+abbrev pub countFrom : Size → Count
+countFrom n = record { hi = n .hi; lo = n .lo }
+
+abbrev pub countsOf : Tally → Counts
+countsOf t = record { counts = map countFrom (t .counts) }
+
+abbrev pub origin : Four
+origin = record { a = pos 0; b = pos 0; c = pos 0; d = pos 0 }
+
+-- an answer: its kind, the number of a refusal, yes or no, a count; a pattern has its scale and two points. What does not belong to it is 0
+abbrev pub told : ℕ → ℕ → Bool → ℕ → Reply
+told kind number b count = record { kind = kind; number = number; flag = bit b; scale = 0; count = count; u = origin; t = origin }
+
+abbrev pub leastOf : ℕ → Point → Point → Reply
+leastOf k u t = record { kind = 5; number = 0; flag = 0; scale = k; count = 0; u = fourOf u; t = fourOf t }
+
+abbrev pub replyOf : Model.Answer world → Reply
+replyOf (refused n) = told 0 n false 0
+replyOf (taken n) = told 1 0 false n
+replyOf (handed n e l) = told 2 0 e n
+replyOf done = told 3 0 false 0
+replyOf (says b) = told 4 0 b 0
+replyOf (best b) = leastOf (b .scale) (b .u) (b .t)
 
 -- ---- regions by their tags
 module _ (s : Shape) where
@@ -129,24 +167,26 @@ module _ (s : State) where
   unfolding stageOf
   stage-other e f g h = rw (ne-eqb _ 1 e, ne-eqb _ 2 f, ne-eqb _ 3 g, ne-eqb _ 4 h) refl
 
--- ---- answers by theirs
-module _ (l : List ℤ) (r : Reply) where
-  pub reply-1 : {n : ℕ} → r .kind ≡ 1 → r .count ≡ n → replied l r ≡ taken n
-  unfolding replied
-  reply-1 e f = rw (e, f) refl
+-- ---- there and back
+pub bit-set : (b : Bool) → isSet (bit b) ≡ b
+bit-set true = refl
+bit-set false = refl
 
-  pub reply-2 : {n : ℕ} {b : Bool} → r .kind ≡ 2 → r .count ≡ n → isSet (r .flag) ≡ b → replied l r ≡ handed n b l
-  unfolding replied
-  reply-2 e f g = rw (e, f, g) refl
+sizes-back : (l : List Size) → map sizeFrom (map countFrom l) ≡ l
+sizes-back [] = refl
+sizes-back (n ∷ l) = ap (λ (m : List Size). n ∷ m) (sizes-back l)
 
-  pub reply-3 : r .kind ≡ 3 → replied l r ≡ done
-  unfolding replied
-  reply-3 e = rw e refl
+pub tally-back : (t : Tally) → tallyOf (countsOf t) ≡ t
+tally-back t = λ i. record { counts = sizes-back (t .counts) i }
 
-  pub reply-4 : {b : Bool} → r .kind ≡ 4 → isSet (r .flag) ≡ b → replied l r ≡ says b
-  unfolding replied
-  reply-4 e f = rw (e, f) refl
+pub bench-is : (s : State) {b : Tallied} → stageOf s ≡ b .session .stage → s .tally ≡ countsOf (b .tally) → benchOf s ≡ b
+bench-is s {b} e f = let g = ap tallyOf f ∙ tally-back (b .tally) in λ i. record { session = record { stage = e i }; tally = g i }
 
-  pub reply-0 : {n : ℕ} → r .kind ≡ 0 → r .number ≡ n → replied l r ≡ refused n
-  unfolding replied
-  reply-0 e f = rw (e, f) refl
+-- the numbers of an answer do not hold the lent slice
+pub reply-any : (a : Answer) (l : List ℤ) → replyOf (answerOf [] a) ≡ replyOf (answerOf l a)
+reply-any (A.Taken n) l = refl
+reply-any (A.Handed n e) l = refl
+reply-any A.Done l = refl
+reply-any (A.Says b) l = refl
+reply-any (A.Least k u t) l = refl
+reply-any (A.Refused f) l = refl

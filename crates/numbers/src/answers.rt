@@ -1,10 +1,13 @@
 // The numbers of an answer.
 ghost use mathlib.Core.Path.{_≡_};
-ghost use Rattle.numbers.specs.Numbers.{isSet, Tells};
+ghost use mathlib.Core.List.{[]};
+ghost use Rattle.stages.specs.Session.{answerOf};
+ghost use Rattle.numbers.specs.Numbers.{told, leastOf, replyOf};
 use crate::Four;
 use crate::Reply;
 use crate::forth::flag;
-use crate::forth::four;
+use crate::forth::four_of;
+use ring::Point;
 use session::Answer;
 
 const ORIGIN: Four = Four {
@@ -14,14 +17,14 @@ const ORIGIN: Four = Four {
     d: 0,
 };
 
-// One number or flag.
-fn one(kind: u8, number: u8, all: bool, count: usize) -> Reply
-    ensures { λ r. ⌜ (r .kind ≡ kind) × (r .number ≡ number) × (isSet (r .flag) ≡ all) × (r .count ≡ count) ⌝ }
+// An answer of one number or flag.
+pub fn told(kind: u8, number: u8, yes: bool, count: usize) -> Reply
+    ensures { λ r. ⌜ r ≡ told kind number yes count ⌝ }
 {
     Reply {
         kind: kind,
         number: number,
-        flag: flag(all),
+        flag: flag(yes),
         scale: 0,
         count: count,
         u: ORIGIN,
@@ -29,24 +32,31 @@ fn one(kind: u8, number: u8, all: bool, count: usize) -> Reply
     }
 }
 
+// A pattern.
+fn least(k: u8, u: Point, t: Point) -> Reply
+    ensures { λ r. ⌜ r ≡ leastOf k u t ⌝ }
+{
+    Reply {
+        kind: 5,
+        number: 0,
+        flag: 0,
+        scale: k,
+        count: 0,
+        u: four_of(u),
+        t: four_of(t),
+    }
+}
+
 // The numbers of an answer.
 pub fn reply_of(a: Answer) -> Reply
-    ensures { λ r. ⌜ Tells a r ⌝ }
+    ensures { λ r. ⌜ r ≡ replyOf (answerOf [] a) ⌝ }
 {
     match a {
-        Answer::Taken(n) => one(1, 0, false, n),
-        Answer::Handed(n, end) => one(2, 0, end, n),
-        Answer::Done => one(3, 0, false, 0),
-        Answer::Says(yes) => one(4, 0, yes, 0),
-        Answer::Least(k, u, t) => Reply {
-            kind: 5,
-            number: 0,
-            flag: 0,
-            scale: k,
-            count: 0,
-            u: four(u),
-            t: four(t),
-        },
-        Answer::Refused(f) => one(0, f.number(), false, 0),
+        Answer::Taken(n) => told(1, 0, false, n),
+        Answer::Handed(n, end) => told(2, 0, end, n),
+        Answer::Done => told(3, 0, false, 0),
+        Answer::Says(yes) => told(4, 0, yes, 0),
+        Answer::Least(k, u, t) => least(k, u, t),
+        Answer::Refused(f) => told(0, f.number(), false, 0),
     }
 }

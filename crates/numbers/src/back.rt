@@ -1,10 +1,11 @@
-// The session that numbers are.
+// The bench's session that numbers are.
 ghost use mathlib.Core.Path.{_≡_};
-ghost use Rattle.numbers.specs.Numbers.{isSet, pointOf, operatorOf, rectangleOf, ellipseOf, sliceOf, regionOf, spotOf, courseOf, stageOf, sessionOf};
+ghost use Rattle.numbers.specs.Numbers.{isSet, pointOf, operatorOf, rectangleOf, ellipseOf, sliceOf, regionOf, spotOf, courseOf, stageOf, benchOf};
 use crate::Eight;
 use crate::Four;
 use crate::Shape;
 use crate::State;
+use crate::tallies::tally_of;
 use operator::Operator;
 use region::Ellipse;
 use region::Job;
@@ -16,9 +17,11 @@ use session::Parts;
 use session::Session;
 use session::Stage;
 use stages::Course;
+use tallied::Tallied;
 use walk::Spot;
 
-pub(crate) fn is_set(x: u8) -> bool
+// Whether a flag is set: it is not 0.
+pub fn is_set(x: u8) -> bool
     ensures { λ r. ⌜ r ≡ isSet x ⌝ }
 {
     x != 0
@@ -36,7 +39,8 @@ pub fn point_of(f: Four) -> Point
     }
 }
 
-fn operator_of(f: Eight) -> Operator
+// The operator of eight numbers.
+pub fn operator_of(f: Eight) -> Operator
     ensures { λ r. ⌜ r ≡ operatorOf f ⌝ }
 {
     Operator {
@@ -88,7 +92,8 @@ fn slice_of(s: Shape) -> Slice
     }
 }
 
-fn region_of(s: Shape) -> Region
+// The region of a shape.
+pub fn region_of(s: Shape) -> Region
     ensures { λ r. ⌜ r ≡ regionOf s ⌝ }
 {
     if s.kind == 2 {
@@ -100,7 +105,8 @@ fn region_of(s: Shape) -> Region
     Region::Slice(slice_of(s))
 }
 
-fn spot_of(ended: u8, v: Point) -> Spot
+// The place of a walk.
+pub fn spot_of(ended: u8, v: Point) -> Spot
     ensures { λ r. ⌜ r ≡ spotOf ended v ⌝ }
 {
     if ended == 0 {
@@ -141,9 +147,14 @@ fn stage_of(s: State) -> Stage
     }
 }
 
-// The session.
-pub fn session_of(s: State) -> Session
-    ensures { λ r. ⌜ r ≡ sessionOf s ⌝ }
+// The session, with its tally.
+pub fn session_of(s: State) -> Tallied
+    ensures { λ r. ⌜ r ≡ benchOf s ⌝ }
 {
-    Session { stage: stage_of(s) }
+    let stage = stage_of(s);
+    let tally = tally_of(s.tally);
+    Tallied {
+        session: Session { stage: stage },
+        tally: tally,
+    }
 }

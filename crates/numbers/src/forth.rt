@@ -1,11 +1,13 @@
-// The numbers of a session.
+// The numbers of the bench's session.
 ghost use mathlib.Core.Path.{_≡_};
 ghost use Rattle.stages.specs.declared.Stage.the-variants as stages;
-ghost use Rattle.numbers.specs.Numbers.{isSet, pointOf, operatorOf, rectangleOf, ellipseOf, sliceOf, regionOf, spotOf, stageOf, sessionOf};
+ghost use Rattle.numbers.specs.Numbers.{bit, isSet, pointOf, fourOf, eightOf, rectangleOf, ellipseOf, sliceOf, regionOf, spotOf, stageOf, benchOf};
+use crate::Counts;
 use crate::Eight;
 use crate::Four;
 use crate::Shape;
 use crate::State;
+use crate::tallies::counts_of;
 use operator::Operator;
 use region::Ellipse;
 use region::Rectangle;
@@ -13,9 +15,9 @@ use region::Region;
 use region::Slice;
 use ring::Point;
 use session::Parts;
-use session::Session;
 use session::Stage;
 use stages::Course;
+use tallied::Tallied;
 use walk::Spot;
 
 const ORIGIN: Four = Four {
@@ -56,7 +58,7 @@ const NO_OPERATOR: Eight = Eight {
 
 // 1 for yes.
 pub fn flag(x: bool) -> u8
-    ensures { λ r. ⌜ isSet r ≡ x ⌝ }
+    ensures { λ r. ⌜ r ≡ bit x ⌝ }
 {
     if x { 1 } else { 0 }
 }
@@ -127,7 +129,8 @@ fn of_slice(x: Slice) -> Shape
     }
 }
 
-fn shape_of(r: Region) -> Shape
+// The numbers of a region.
+pub fn shape_of(r: Region) -> Shape
     ensures { λ s. ⌜ regionOf s ≡ r ⌝ }
 {
     match r {
@@ -138,14 +141,14 @@ fn shape_of(r: Region) -> Shape
 }
 
 // A place of the walk.
-struct Place {
-    ended: u8,
-    v: Four,
+pub struct Place {
+    pub ended: u8,
+    pub v: Four,
 }
 
 // The numbers of a point.
-pub(crate) fn four(v: Point) -> Four
-    ensures { λ r. ⌜ pointOf r ≡ v ⌝ }
+pub fn four_of(v: Point) -> Four
+    ensures { λ r. ⌜ r ≡ fourOf v ⌝ }
 {
     Four {
         a: v.a,
@@ -155,8 +158,9 @@ pub(crate) fn four(v: Point) -> Four
     }
 }
 
-fn eight(g: Operator) -> Eight
-    ensures { λ r. ⌜ operatorOf r ≡ g ⌝ }
+// The numbers of an operator.
+pub fn eight_of(g: Operator) -> Eight
+    ensures { λ r. ⌜ r ≡ eightOf g ⌝ }
 {
     Eight {
         a: g.a,
@@ -170,13 +174,14 @@ fn eight(g: Operator) -> Eight
     }
 }
 
-fn spotted(p: Spot) -> Place
+// The numbers of a place.
+pub fn spotted(p: Spot) -> Place
     ensures { λ r. ⌜ spotOf (r .ended) (pointOf (r .v)) ≡ p ⌝ }
 {
     match p {
         Spot::At(v) => Place {
             ended: 0,
-            v: four(v),
+            v: four_of(v),
         },
         Spot::Ended => Place {
             ended: 1,
@@ -185,20 +190,20 @@ fn spotted(p: Spot) -> Place
     }
 }
 
-fn early(p: Parts) -> State
-    ensures { λ r. ⌜ stageOf r ≡ stages.Early p ⌝ }
+fn early(p: Parts, counts: Counts) -> State
+    ensures { λ r. ⌜ (stageOf r ≡ stages.Early p) × (r .tally ≡ counts) ⌝ }
 {
     match p {
-        Parts::Nothing => part(0, 0, false, NO_SHAPE),
-        Parts::Scaled(k) => part(1, k, false, NO_SHAPE),
-        Parts::Selected(k, all) => part(2, k, all, NO_SHAPE),
-        Parts::First(k, all, a) => part(3, k, all, shape_of(a)),
+        Parts::Nothing => part(0, 0, false, NO_SHAPE, counts),
+        Parts::Scaled(k) => part(1, k, false, NO_SHAPE, counts),
+        Parts::Selected(k, all) => part(2, k, all, NO_SHAPE, counts),
+        Parts::First(k, all, a) => part(3, k, all, shape_of(a), counts),
     }
 }
 
 // A job that is not whole.
-fn part(stage: u8, k: u8, all: bool, a: Shape) -> State
-    ensures { λ r. ⌜ (r .stage ≡ stage) × (r .k ≡ k) × (isSet (r .all) ≡ all) × (r .a ≡ a) ⌝ }
+fn part(stage: u8, k: u8, all: bool, a: Shape, counts: Counts) -> State
+    ensures { λ r. ⌜ (r .stage ≡ stage) × (r .k ≡ k) × (isSet (r .all) ≡ all) × (r .a ≡ a) × (r .tally ≡ counts) ⌝ }
 {
     State {
         stage: stage,
@@ -209,14 +214,15 @@ fn part(stage: u8, k: u8, all: bool, a: Shape) -> State
         b: NO_SHAPE,
         spot: ORIGIN,
         operator: NO_OPERATOR,
+        tally: counts,
     }
 }
 
-fn walking(c: Course) -> State
-    ensures { λ r. ⌜ stageOf r ≡ stages.Walking c ⌝ }
+fn walking(c: Course, counts: Counts) -> State
+    ensures { λ r. ⌜ (stageOf r ≡ stages.Walking c) × (r .tally ≡ counts) ⌝ }
 {
     let job = c.job;
-    let operator = eight(c.operator);
+    let operator = eight_of(c.operator);
     let spot = c.spot;
     let p = spotted(spot);
     let v = p.v;
@@ -233,16 +239,20 @@ fn walking(c: Course) -> State
         b: b,
         spot: v,
         operator: operator,
+        tally: counts,
     }
 }
 
-// The numbers of a session.
-pub fn state_of(s: Session) -> State
-    ensures { λ r. ⌜ sessionOf r ≡ s ⌝ }
+// The numbers of a session with its tally.
+pub fn state_of(b: Tallied) -> State
+    ensures { λ r. ⌜ benchOf r ≡ b ⌝ }
 {
+    let s = b.session;
+    let t = b.tally;
+    let counts = counts_of(t);
     let g = s.stage;
     match g {
-        Stage::Early(p) => early(p),
-        Stage::Walking(c) => walking(c),
+        Stage::Early(p) => early(p, counts),
+        Stage::Walking(c) => walking(c, counts),
     }
 }

@@ -1,14 +1,26 @@
-// A session and its answers as plain numbers, for callers that are not Rattle: every value of these structs is some session and some answer
-// (specs/Numbers), so that nothing is undefined, whatever a caller hands in. All zeros are the fresh session.
+// The bench's session and its answers as plain numbers, for callers that are not Rattle: every value of `State` is some session (specs/Numbers), so that nothing is undefined,
+// whatever a caller hands in. All zeros are the fresh session.
 mod answers;
 mod back;
 mod forth;
+mod tallies;
 
 pub use answers::reply_of;
+pub use answers::told;
+pub use back::is_set;
+pub use back::operator_of;
 pub use back::point_of;
+pub use back::region_of;
 pub use back::session_of;
+pub use back::spot_of;
+pub use forth::Place;
+pub use forth::eight_of;
 pub use forth::flag;
+pub use forth::four_of;
+pub use forth::shape_of;
+pub use forth::spotted;
 pub use forth::state_of;
+pub use tallies::counts_of;
 
 // A point.
 #[repr(C)]
@@ -52,6 +64,19 @@ pub struct Shape {
     pub w: i32,
 }
 
+// hi·2^64 + lo.
+#[repr(C)]
+pub struct Count {
+    pub hi: u64,
+    pub lo: u64,
+}
+
+// A count for each exponent from 0 to 20.
+#[repr(C)]
+pub struct Counts {
+    pub counts: [Count; 21],
+}
+
 // A session. Stage 1 has the scale, 2 the selection too, 3 region A too, 4 the whole job; any other has read nothing.
 #[repr(C)]
 pub struct State {
@@ -63,6 +88,7 @@ pub struct State {
     pub b: Shape,
     pub spot: Four,
     pub operator: Eight,
+    pub tally: Counts,
 }
 
 // An answer. Kind 1 is a reading's count of bytes, 2 a hand-out's count and whether the end is reached, 3 done, 4 yes or no, 5 a pattern, any other a refusal by its number.

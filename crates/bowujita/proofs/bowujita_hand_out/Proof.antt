@@ -1,5 +1,5 @@
-use mathlib.Core.Path.{_∙_}
-use Rattle.bowujita.specs.Calls.{left-is}
+-- `bowujita_hand_out` meets its contract. Assumes nothing.
+use Rattle.bowujita.specs.Calls.{left-deals}
 use borrow.Author.Needs.{needs}
 use Rattle.bowujita.proofs.bowujita_hand_out.Statement.{statement}
 use Rattle.bowujita.proofs.bowujita_hand_out.Tie as tie
@@ -17,8 +17,7 @@ same-length : tie.Need-same-length
 same-length c = search needs
 
 returns : tie.Need-returns
-returns c = let g = rw (c .before .before .before .before .session-of .ensures) at (c .before .before .hand-out .ensures) in record { met = left-is (c .leaving .ensures) _ ∙ g .met; slice = g .slice }
+returns c = left-deals _ _ (c .leaving .ensures) (c .before .before .before .before .session-of .ensures) (c .before .before .hand-out .ensures)
 
 pub bowujita-hand-out-spec : {M : Type 1} → statement M
-bowujita-hand-out-spec =
-    tie.close (tie.spec session-of-requires hand-out-requires leaving-requires same-length returns)
+bowujita-hand-out-spec = tie.close (tie.spec session-of-requires hand-out-requires leaving-requires same-length returns)

@@ -1,5 +1,6 @@
-use Rattle.bowujita.specs.Calls.{asks-image}
-use mathlib.Core.List.{[]}
+-- `bowujita_has_image` meets its contract. Assumes nothing.
+use Rattle.calls.specs.Session.{imageOf}
+use Rattle.bowujita.specs.Calls.{asked, same-image}
 use borrow.Author.Needs.{needs}
 use Rattle.bowujita.proofs.bowujita_has_image.Statement.{statement}
 use Rattle.bowujita.proofs.bowujita_has_image.Tie as tie
@@ -17,9 +18,7 @@ reply-of-requires : tie.Need-reply-of-requires
 reply-of-requires c κs = search needs
 
 returns : tie.Need-returns
-returns c = rw (c .reply-of .ensures []) (asks-image (c .before .has-image .result) (c .before .before .before .session-of .ensures) (c .before .before .point-of .ensures) (c .before .has-image .ensures))
+returns c = same-image (c .before .before .before .before .args .s) (c .before .before .point-of .ensures) (asked (imageOf (c .before .before .point-of .result)) (c .before .has-image .result) (c .before .before .before .before .args .s) (c .before .before .before .session-of .ensures) (c .reply-of .ensures) (c .before .has-image .ensures))
 
 pub bowujita-has-image-spec : {M : Type 1} → statement M
-bowujita-has-image-spec =
-    tie.close
-    (tie.spec session-of-requires point-of-requires has-image-requires reply-of-requires returns)
+bowujita-has-image-spec = tie.close (tie.spec session-of-requires point-of-requires has-image-requires reply-of-requires returns)

@@ -1,4 +1,6 @@
-use mathlib.Core.List.{[]}
+-- `bowujita_has_solution` meets its contract. Assumes nothing.
+use Rattle.calls.specs.Session.{plain}
+use Rattle.bowujita.specs.Calls.{asked}
 use borrow.Author.Needs.{needs}
 use Rattle.bowujita.proofs.bowujita_has_solution.Statement.{statement}
 use Rattle.bowujita.proofs.bowujita_has_solution.Tie as tie
@@ -13,8 +15,7 @@ reply-of-requires : tie.Need-reply-of-requires
 reply-of-requires c κs = search needs
 
 returns : tie.Need-returns
-returns c = rw (c .reply-of .ensures []) (rw (c .before .before .session-of .ensures) at (c .before .has-solution .ensures .met))
+returns c = asked plain (c .before .has-solution .result) (c .before .before .before .args .s) (c .before .before .session-of .ensures) (c .reply-of .ensures) (c .before .has-solution .ensures)
 
 pub bowujita-has-solution-spec : {M : Type 1} → statement M
-bowujita-has-solution-spec =
-    tie.close (tie.spec session-of-requires has-solution-requires reply-of-requires returns)
+bowujita-has-solution-spec = tie.close (tie.spec session-of-requires has-solution-requires reply-of-requires returns)

@@ -1,6 +1,6 @@
-use mathlib.Core.Path.{_∙_}
+-- `bowujita_rewind` meets its contract. Assumes nothing.
 use mathlib.Core.List.{[]}
-use Rattle.bowujita.specs.Calls.{left-is}
+use Rattle.bowujita.specs.Calls.{left-moves}
 use borrow.Author.Needs.{needs}
 use Rattle.bowujita.proofs.bowujita_rewind.Statement.{statement}
 use Rattle.bowujita.proofs.bowujita_rewind.Tie as tie
@@ -15,8 +15,7 @@ leaving-requires : tie.Need-leaving-requires
 leaving-requires c κs = search needs
 
 returns : tie.Need-returns
-returns c = left-is (c .leaving .ensures) [] ∙ rw (c .before .before .session-of .ensures) at (c .before .rewind .ensures .met)
+returns c = left-moves [] (c .leaving .ensures) (c .before .before .session-of .ensures) (c .before .rewind .ensures)
 
 pub bowujita-rewind-spec : {M : Type 1} → statement M
-bowujita-rewind-spec =
-    tie.close (tie.spec session-of-requires rewind-requires leaving-requires returns)
+bowujita-rewind-spec = tie.close (tie.spec session-of-requires rewind-requires leaving-requires returns)

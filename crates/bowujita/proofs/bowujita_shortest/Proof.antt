@@ -1,4 +1,6 @@
-use mathlib.Core.List.{[]}
+-- `bowujita_shortest` meets its contract. Assumes nothing.
+use Rattle.calls.specs.Session.{shortest}
+use Rattle.bowujita.specs.Calls.{asked}
 use borrow.Author.Needs.{needs}
 use Rattle.bowujita.proofs.bowujita_shortest.Statement.{statement}
 use Rattle.bowujita.proofs.bowujita_shortest.Tie as tie
@@ -13,8 +15,7 @@ reply-of-requires : tie.Need-reply-of-requires
 reply-of-requires c κs = search needs
 
 returns : tie.Need-returns
-returns c = rw (c .reply-of .ensures []) (rw (c .before .before .session-of .ensures) at (c .before .shortest .ensures .met))
+returns c = asked shortest (c .before .shortest .result) (c .before .before .before .args .s) (c .before .before .session-of .ensures) (c .reply-of .ensures) (c .before .shortest .ensures)
 
 pub bowujita-shortest-spec : {M : Type 1} → statement M
-bowujita-shortest-spec =
-    tie.close (tie.spec session-of-requires shortest-requires reply-of-requires returns)
+bowujita-shortest-spec = tie.close (tie.spec session-of-requires shortest-requires reply-of-requires returns)

@@ -1,3 +1,4 @@
+-- `bowujita_sign` meets its contract. Assumes nothing.
 use mir.Syntax.{w64}
 use mir.Val.{SFits}
 use mir.Facts.{toZ-ofZ}

@@ -1,3 +1,4 @@
+use Rattle.numbers.specs.Numbers.{bit-set}
 use borrow.Author.Needs.{needs}
 use Rattle.bowujita.proofs.alone.bowujita_words.Statement.{statement}
 use Rattle.bowujita.proofs.alone.bowujita_words.Tie as tie
@@ -21,7 +22,7 @@ same-length-2 : tie.Need-same-length-2
 same-length-2 c = search needs
 
 returns : tie.Need-returns
-returns c = rw (c .flag .ensures) (rw (c .before .before .before .before .before .before .before .before .before .point-of .ensures, c .before .before .before .before .before .before .before .before .point-of2 .ensures) at (c .before .before .before .before .before .spell-part .ensures))
+returns c = rw (c .flag .ensures, bit-set) (rw (c .before .before .before .before .before .before .before .before .before .point-of .ensures, c .before .before .before .before .before .before .before .before .point-of2 .ensures) at (c .before .before .before .before .before .spell-part .ensures))
 
 pub bowujita-words-spec : {M : Type 1} → statement M
 bowujita-words-spec =

@@ -32,16 +32,16 @@ part-requires-4 : tie.Need-part-requires-4
 part-requires-4 c κs = search needs
 
 returns : tie.Need-returns
-returns c = stage-0 (c .part .result) (c .part .ensures .0) ∙ rw (c .before .enum-told .given .1) refl
+returns c = let e = c .part .ensures in (stage-0 (c .part .result) (e .0) ∙ rw (c .before .enum-told .given .1) refl, e .4)
 
 returns-2 : tie.Need-returns-2
-returns-2 c = let e = c .part2 .ensures in stage-1 (c .part2 .result) (e .0) (e .1) ∙ rw (c .before .before .p .given .1) refl
+returns-2 c = let e = c .part2 .ensures in (stage-1 (c .part2 .result) (e .0) (e .1) ∙ rw (c .before .before .p .given .1) refl, e .4)
 
 returns-3 : tie.Need-returns-3
-returns-3 c = let e = c .part3 .ensures in stage-2 (c .part3 .result) (e .0) (e .1) (e .2) ∙ rw (c .before .before .p2 .given .1) refl
+returns-3 c = let e = c .part3 .ensures in (stage-2 (c .part3 .result) (e .0) (e .1) (e .2) ∙ rw (c .before .before .p2 .given .1) refl, e .4)
 
 returns-4 : tie.Need-returns-4
-returns-4 c = let e = c .part4 .ensures in stage-3 (c .part4 .result) (e .0) (e .1) (e .2) (ap regionOf (e .3) ∙ c .before .shape-of .ensures) ∙ rw (c .before .before .before .p3 .given .1) refl
+returns-4 c = let e = c .part4 .ensures in (stage-3 (c .part4 .result) (e .0) (e .1) (e .2) (ap regionOf (e .3) ∙ c .before .shape-of .ensures) ∙ rw (c .before .before .before .p3 .given .1) refl, e .4)
 
 pub early-spec : {M : Type 1} → statement M
 early-spec =

@@ -1,7 +1,11 @@
-use mathlib.Core.Path.{refl}
+use mathlib.Core.Path.{sym, _∙_}
+use Rattle.numbers.specs.Numbers.{bench-is}
 use borrow.Author.Needs.{needs}
 use Rattle.numbers.proofs.forth.state_of.Statement.{statement}
 use Rattle.numbers.proofs.forth.state_of.Tie as tie
+
+counts-of-requires : tie.Need-counts-of-requires
+counts-of-requires c κs = search needs
 
 enum-known-g : tie.Need-enum-known-g
 enum-known-g c = search needs
@@ -16,12 +20,12 @@ walking-requires : tie.Need-walking-requires
 walking-requires c κs = search needs
 
 returns : tie.Need-returns
-returns c = rw (c .early .ensures, ← c .before .before .g .given .1) refl
+returns c = let e = c .early .ensures in bench-is (c .early .result) (e .0 ∙ sym (c .before .before .g .given .1)) (e .1 ∙ c .before .before .before .before .counts-of .ensures)
 
 returns-2 : tie.Need-returns-2
-returns-2 c = rw (c .walking .ensures, ← c .before .before .g2 .given .1) refl
+returns-2 c = let e = c .walking .ensures in bench-is (c .walking .result) (e .0 ∙ sym (c .before .before .g2 .given .1)) (e .1 ∙ c .before .before .before .before .counts-of .ensures)
 
 pub state-of-spec : {M : Type 1} → statement M
 state-of-spec =
     tie.close
-    (tie.spec enum-known-g early-requires enum-known-g-2 walking-requires returns returns-2)
+    (tie.spec counts-of-requires enum-known-g early-requires enum-known-g-2 walking-requires returns returns-2)

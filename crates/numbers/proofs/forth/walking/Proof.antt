@@ -1,11 +1,11 @@
 use mathlib.Core.Path.{refl}
-use Rattle.numbers.specs.Numbers.{stageOf}
+use Rattle.numbers.specs.Numbers.{stageOf, bit-set}
 use borrow.Author.Needs.{needs}
 use Rattle.numbers.proofs.forth.walking.Statement.{statement}
 use Rattle.numbers.proofs.forth.walking.Tie as tie
 
-eight-requires : tie.Need-eight-requires
-eight-requires c κs = search needs
+eight-of-requires : tie.Need-eight-of-requires
+eight-of-requires c κs = search needs
 
 spotted-requires : tie.Need-spotted-requires
 spotted-requires c κs = search needs
@@ -21,9 +21,9 @@ flag-requires c κs = search needs
 
 returns : tie.Need-returns
 unfolding stageOf
-returns c = rw (c .flag .ensures, c .before .before .shape-of .ensures, c .before .shape-of2 .ensures, c .before .before .before .before .spotted .ensures, c .before .before .before .before .before .eight .ensures) refl
+returns c = (rw (c .flag .ensures, bit-set, c .before .before .shape-of .ensures, c .before .shape-of2 .ensures, c .before .before .before .before .spotted .ensures, c .before .before .before .before .before .eight-of .ensures) refl, refl)
 
 pub walking-spec : {M : Type 1} → statement M
 walking-spec =
     tie.close
-    (tie.spec eight-requires spotted-requires shape-of-requires shape-of-requires-2 flag-requires returns)
+    (tie.spec eight-of-requires spotted-requires shape-of-requires shape-of-requires-2 flag-requires returns)

@@ -1,0 +1,16 @@
+use borrow.Author.Needs.{needs}
+use mathlib.Core.Path.{refl}
+use Rattle.numbers.proofs.answers.least.Statement.{statement}
+use Rattle.numbers.proofs.answers.least.Tie as tie
+
+four-of-requires : tie.Need-four-of-requires
+four-of-requires c κs = search needs
+
+four-of-requires-2 : tie.Need-four-of-requires-2
+four-of-requires-2 c κs = search needs
+
+returns : tie.Need-returns
+returns c = rw (c .before .four-of .ensures, c .four-of2 .ensures) refl
+
+pub least-spec : {M : Type 1} → statement M
+least-spec = tie.close (tie.spec four-of-requires four-of-requires-2 returns)
