@@ -29,7 +29,7 @@ use Rattle.optimal.specs.Unbeaten.{Meets, Enters, GatesEnter, unbeaten, unbeate
 use Rattle.kinds.specs.declared.Refusal.the-variants.{NoPattern}
 use Rattle.calls.specs.Session.{whole, shortest, refused}
 use Rattle.calls.specs.Session as Model
-use Rattle.calls.specs.Rules.{begin, tallied}
+use Rattle.calls.specs.Rules.{begin, knownAfter}
 use Rattle.calls.specs.Agree.{jobOf, whole-job}
 use Rattle.stages.specs.declared.Course.{Course}
 use Rattle.stages.specs.declared.Stage.{Stage}
@@ -46,7 +46,7 @@ use Rattle.t_count.specs.Room.{spelled, roomy}
 
 -- ---- the job of a run: the one that the records read make, by the rules (SPEC, "Calls")
 abbrev pub HasJob : List Made → Job → Type 0
-HasJob ms j = tallied world (begin world) (callsOf ms) .job ≡ whole j
+HasJob ms j = knownAfter world (begin world) (callsOf ms) .job ≡ whole j
 
 -- `shortest` is answered otherwise than by 9 where the job is whole
 course : (s : Session) (a : Said.Answer) → Steps shortest [] s s a → (answerOf [] a ≡ refused 9 → ⊥) → (c : Course) × (s .stage ≡ S.Walking c)
