@@ -1,0 +1,2 @@
+-- What `count` counts.
+pub mod Counting
