@@ -1,17 +1,19 @@
 // The number of solutions without their lines, for timing.
 ghost use mathlib.Core.Path.{_≡_};
-ghost use mathlib.Core.Bool.{true};
-ghost use Prim.Native.Nat.{_<_};
 ghost use lib.ListN.{length};
 ghost use Rattle.stages.specs.Session.{meaning};
+ghost use Rattle.words.specs.Meaning.{wrapped};
 ghost use Rattle.listing.specs.Given.{leftOf};
+ghost use Rattle.printing.specs.Counting.{Counted};
 use listing::Page;
 use session::Answer;
 use session::Session;
 use words::Size;
 
-// The number of solutions that are left.
-pub(crate) fn count(s: Session) -> Size {
+// The number of points that are left.
+pub(crate) fn count(s: Session) -> Size
+    ensures { λ r. ⌜ r ≡ wrapped (leftOf (meaning s)) ⌝ }
+{
     let mut left = s;
     let mut total = Size { hi: 0, lo: 0 };
     let mut more = true;
@@ -26,7 +28,7 @@ pub(crate) fn count(s: Session) -> Size {
 
 // One hand-out of at most 4,096 points without its lines.
 fn count_page(s: Session) -> Page
-    ensures { λ r. ⌜ (r .more ≡ true → leftOf (meaning (r .session)) < leftOf (meaning s)) ⌝ }
+    ensures { λ r. ⌜ Counted (meaning s) (meaning (r .session)) (r .count) (r .more) ⌝ }
 {
     let mut points = point_buffer();
     let o = session::hand_out(s, &mut points);

@@ -1,27 +1,38 @@
--- `count_page` leaves less where more is to come. Assumes nothing.
+-- `count_page` counts the points that it leaves out. Assumes nothing.
 use Prim.Native.Nat.{ℕ, _/_, _≤_}
-use mathlib.Core.Path.{_≡_, sym, ap, _∙_}
-use mathlib.Core.Bool.{true, false}
-use native.Mathlib.Omega.{arith}
+use mathlib.Core.Path.{_≡_, refl, sym, ap, _∙_}
+use mathlib.Core.Bool.{false}
+use mathlib.Core.List.{List, [], _∷_}
+use lib.IntN.{ℤ}
+use types.Run.{OneOf, miss}
+use denote.Enum.Declared.{tagOf}
 use lib.Dec.{lit≤}
 use lib.ListN.{length}
 use Rattle.calls.specs.Session.{handOut, step}
 use Rattle.stages.specs.declared.Answer.{Answer}
+use Rattle.stages.specs.declared.Answer.the-variants as A
+use Rattle.stages.proofs.Answer.{the-type}
+use Rattle.listing.specs.Given.{isHanded}
 use Rattle.stages.specs.World.{world}
-use Rattle.stages.specs.Session.{meaning, outcome}
-use Rattle.listing.specs.Given.{page-handed, page-less}
+use Rattle.stages.specs.Session.{meaning, outcome, answerOf}
+use Rattle.printing.specs.Counting.{handed-counts, refused-counts}
 use borrow.Author.Needs.{needs}
 use Rattle.printing.proofs.counting.count_page.Statement.{statement}
 use Rattle.printing.proofs.counting.count_page.Tie as tie
-
--- a hand-out that was refused leaves nothing to come
-never : {P : Type 0} → false ≡ true → P
-never e = absurd (let y : _≡_ {A = ℕ} 0 1 = cc in omega arith)
 
 -- what the hand-out met, with the answer that the match found
 met : (h : tie.After-hand-out) (a : Answer) → h .hand-out .result .answer ≡ a
     → outcome (h .hand-out .last .1 .0) (h .hand-out .result .session) a ≡ step world (handOut (h .before .before .point-buffer .result)) (meaning (h .before .before .before .args .s))
 met h a e = ap (outcome (h .hand-out .last .1 .0) (h .hand-out .result .session)) (sym e) ∙ h .hand-out .ensures .met
+
+-- an answer that is no hand-out's, by the number of its case
+not-handed : (l : List ℤ) (a : Answer) → OneOf (0 ∷ 2 ∷ 3 ∷ 4 ∷ 5 ∷ []) (tagOf the-type a) → isHanded (answerOf l a) ≡ false
+not-handed l (A.Taken n) k = refl
+not-handed l (A.Handed n e) k = absurd (miss (0 ∷ 2 ∷ 3 ∷ 4 ∷ 5 ∷ []) 1 tt k)
+not-handed l A.Done k = refl
+not-handed l (A.Says b) k = refl
+not-handed l (A.Least n u t) k = refl
+not-handed l (A.Refused f) k = refl
 
 point-buffer-requires : tie.Need-point-buffer-requires
 point-buffer-requires c κs = search needs
@@ -36,18 +47,21 @@ enum-known-a : tie.Need-enum-known-a
 enum-known-a c = search needs
 
 returns : tie.Need-returns
-returns c e = never e
+returns c =
+    let h = c .before .before .before in
+    let b = h .before .before in
+    let new = h .hand-out .last .1 .0 in
+    refused-counts (b .point-buffer .result) (answerOf new (h .hand-out .result .answer)) (meaning (h .hand-out .result .session)) (meaning (b .before .args .s)) (not-handed new (h .hand-out .result .answer) (c .match .keys2)) (h .hand-out .ensures .met)
 
 returns-2 : tie.Need-returns-2
-returns-2 c e =
+returns-2 c =
     let k = c .before in
     let h = k .before .before .before .before in
     let b = h .before .before in
     let m = meaning (b .before .args .s) in
     let old = b .point-buffer .result in
-    let p = page-handed old (h .hand-out .last .1 .0) (k .a .given .0 .0) (k .a .given .0 .1 .0) (meaning (h .hand-out .result .session)) m (met h _ (k .a .given .1)) in
     let room : 1 ≤ length old / 4 = rw (← b .point-buffer .ensures) (lit≤ tt) in
-    rw (p .session) (page-less (length old / 4) room m (sym (p .more) ∙ e))
+    handed-counts old (h .hand-out .last .1 .0) (k .a .given .0 .0) (k .a .given .0 .1 .0) (meaning (h .hand-out .result .session)) m room (met h _ (k .a .given .1))
 
 pub count-page-spec : {M : Type 1} → statement M
 count-page-spec =
