@@ -72,7 +72,7 @@ fn offer(fd: i32, part: &[u8]) -> Answer
     sending::judged(got, os::errno())
 }
 
-// Room for the lines of 1,024 points.
+// Room for the lines of 1,872 points.
 fn output_buffer() -> [u8; 131072]
     ensures { λ r. ⌜ 131072 ≡ length r ⌝ }
 {
