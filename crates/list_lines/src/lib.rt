@@ -1,7 +1,7 @@
 // The lines that the list program prints: SPEC, "List program". A hand-out's points, the count at the end, a refusal, an input that is too long.
 ghost use mathlib.Core.Path.{_≡_};
 ghost use mathlib.Core.Bool.{false};
-ghost use Prim.Native.Nat.{_+_, _*_, _≤_};
+ghost use Prim.Native.Nat.{_+_, _*_, _<_, _≤_};
 ghost use lib.ListN.{length, take};
 ghost use Rattle.io.specs.Counts.{Counts};
 ghost use Rattle.text.specs.Append.{Appended};
@@ -14,9 +14,9 @@ use kinds::Refusal;
 use ring::Point;
 use words::Size;
 
-// The lines of the first n points, and their length.
+// The lines of the first n points, and their length. A line has at most 70 bytes: four numbers of at most 11 and two of at most 10, each with a mark after it.
 pub fn put_points(out: &mut [u8], points: &[i32], n: usize, k: u8) -> usize
-    requires { ⌜ (4 * n ≤ length (now points)) × (126 * n ≤ length (now out)) ⌝ }
+    requires { ⌜ (4 * n ≤ length (now points)) × (70 * n ≤ length (now out)) ⌝ }
     ensures { λ r. ⌜ Appended (now (out .entry)) 0 (linesOf k (take (4 * n) (now (points .entry)))) (now (out .exit)) r ⌝ }
 {
     let mut last = Point {
@@ -25,7 +25,7 @@ pub fn put_points(out: &mut [u8], points: &[i32], n: usize, k: u8) -> usize
         c: 0,
         d: 0,
     };
-    let mut head = [0u8; 63];
+    let mut head = [0u8; 36];
     let mut length = put_head(&mut head, last);
     let mut at = 0;
     let mut i = 0;
@@ -57,8 +57,8 @@ fn begins_row(u: Point, v: Point) -> bool
 
 // `a b c `, and its length.
 fn put_head(head: &mut [u8], v: Point) -> usize
-    requires { ⌜ length (now head) ≡ 63 ⌝ }
-    ensures { λ r. ⌜ Appended (now (head .entry)) 0 (headText v) (now (head .exit)) r × (r ≤ 63) ⌝ }
+    requires { ⌜ length (now head) ≡ 36 ⌝ }
+    ensures { λ r. ⌜ Appended (now (head .entry)) 0 (headText v) (now (head .exit)) r × (r ≤ 36) ⌝ }
 {
     let b = put_coordinate(head, 0, v.a);
     let c = put_coordinate(head, b, v.b);
@@ -67,23 +67,32 @@ fn put_head(head: &mut [u8], v: Point) -> usize
 
 // `a b c d e m`, where the head is `a b c `.
 fn put_point(out: &mut [u8], at: usize, head: &[u8], v: Point, k: u8) -> usize
-    requires { ⌜ (at + 126 ≤ length (now out)) × (now head ≡ headText v) × (length (now head) ≤ 63) ⌝ }
-    ensures { λ r. ⌜ Appended (now (out .entry)) at (pointLine k v) (now (out .exit)) r × (r ≤ at + 126) ⌝ }
+    requires { ⌜ (at + 70 ≤ length (now out)) × (now head ≡ headText v) × (length (now head) ≤ 36) ⌝ }
+    ensures { λ r. ⌜ Appended (now (out .entry)) at (pointLine k v) (now (out .exit)) r × (r ≤ at + 70) ⌝ }
 {
     let e = v.exponent(k);
     let m = ring::pulse_count(e);
     let d = text::put_bytes(out, at, head);
     let f = put_coordinate(out, d, v.d);
-    let g = put_count(out, f, e as u64, b' ');
-    put_count(out, g, m, b'\n')
+    let g = put_short(out, f, e as u64, b' ');
+    put_short(out, g, m, b'\n')
 }
 
 fn put_coordinate(out: &mut [u8], at: usize, z: i32) -> usize
-    requires { ⌜ at + 21 ≤ length (now out) ⌝ }
-    ensures { λ r. ⌜ Appended (now (out .entry)) at (coordinateText z) (now (out .exit)) r × (r ≤ at + 21) ⌝ }
+    requires { ⌜ at + 12 ≤ length (now out) ⌝ }
+    ensures { λ r. ⌜ Appended (now (out .entry)) at (coordinateText z) (now (out .exit)) r × (r ≤ at + 12) ⌝ }
 {
     let end = text::put_signed(out, at, z as i64);
     text::put_byte(out, end, b' ')
+}
+
+// A number of at most ten digits and a mark.
+fn put_short(out: &mut [u8], at: usize, n: u64, mark: u8) -> usize
+    requires { ⌜ (n < 10000000000) × (at + 11 ≤ length (now out)) ⌝ }
+    ensures { λ r. ⌜ Appended (now (out .entry)) at (countText n mark) (now (out .exit)) r × (r ≤ at + 11) ⌝ }
+{
+    let end = text::put_unsigned(out, at, n);
+    text::put_byte(out, end, mark)
 }
 
 fn put_count(out: &mut [u8], at: usize, n: u64, mark: u8) -> usize

@@ -17,9 +17,9 @@ use Rattle.stages.specs.World.{world}
 use Rattle.stages.specs.Session.{meaning}
 use Rattle.listing.specs.declared.page.Page.{Page}
 
--- the room for points: no more than 1,024, and their lines fit
+-- the room for points: no more than 2,048, and their lines fit
 abbrev pub roomIn : ℕ → ℕ
-roomIn n = min 1024 (n / 126)
+roomIn n = min 2048 (n / 70)
 
 pub record Paging : Type 0 where
   pub session : Model.Session world

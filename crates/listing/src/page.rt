@@ -17,19 +17,19 @@ pub struct Page {
     pub length: usize,
 }
 
-// One hand-out of at most 1,024 points, and its lines at the start of out.
+// One hand-out of at most 2,048 points, and its lines at the start of out.
 pub fn next(s: Session, out: &mut [u8]) -> Page
     ensures { λ r. ⌜ Paged (pageOf (roomIn (length (now (out .entry)))) (meaning s)) r (now (out .entry)) (now (out .exit)) ⌝ }
 {
-    let room = least(1024, out.len() / 126);
+    let room = least(2048, out.len() / 70);
     let mut points = point_buffer();
     filled(s, &mut points[..4 * room], out)
 }
 
-fn point_buffer() -> [i32; 4096]
-    ensures { λ r. ⌜ 4096 ≡ length r ⌝ }
+fn point_buffer() -> [i32; 8192]
+    ensures { λ r. ⌜ 8192 ≡ length r ⌝ }
 {
-    [0; 4096]
+    [0; 8192]
 }
 
 fn least(a: usize, b: usize) -> usize
@@ -38,9 +38,9 @@ fn least(a: usize, b: usize) -> usize
     if a < b { a } else { b }
 }
 
-// The same with the points lent; a line has at most 126 bytes: six numbers of at most 20, each with a mark after it.
+// The same with the points lent; a line has at most 70 bytes.
 fn filled(s: Session, points: &mut [i32], out: &mut [u8]) -> Page
-    requires { ⌜ 126 * (length (now points) / 4) ≤ length (now out) ⌝ }
+    requires { ⌜ 70 * (length (now points) / 4) ≤ length (now out) ⌝ }
     ensures { λ r. ⌜ Paged (pageOf (length (now (points .entry)) / 4) (meaning s)) r (now (out .entry)) (now (out .exit)) ⌝ }
 {
     let o = session::hand_out(s, points);

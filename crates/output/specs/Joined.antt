@@ -79,7 +79,7 @@ part-less n done h e = absurd (let z : _≡_ {A = ℕ} 0 1 = cc in omega arith)
 part-less n (list (early p) t) h e = omega arith
 part-less n (list (walking j ended o) t) h e = omega arith
 part-less n (list (walking j (at p) o) t) h e =
-    let some : 1 ≤ n / 126 = omega arith in
+    let some : 1 ≤ n / 70 = omega arith in
     page-less j p o t (roomIn n) (le-min (omega arith) some) (drop (roomIn n) (rest (listedAt j) (top span) p)) refl (left-place (listedAt j) (top span) (roomIn n) p)
 
 pub piece-less : (n : ℕ) (s : State) → 126 ≤ n → isDone s ≡ false → most (pieceOf n s .next) < most s

@@ -49,7 +49,7 @@ fn print_from(from: Output) -> bool
     true
 }
 
-// Room for the lines of 1,024 points.
+// Room for the lines of 1,872 points.
 fn output_buffer() -> [u8; 131072]
     ensures { λ r. ⌜ 131072 ≡ length r ⌝ }
 {

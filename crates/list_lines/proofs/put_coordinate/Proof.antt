@@ -1,5 +1,5 @@
 -- `put_coordinate` meets its contract. Assumes nothing.
-use Prim.Native.Nat.{_<_, _^_}
+use Prim.Native.Nat.{suc, _+_, _<_, _≤_, _^_}
 use native.Mathlib.Nat.{lt-of-lt-of-le}
 use native.Mathlib.Omega.{arith}
 use mir.Syntax.{w32, w64}
@@ -7,13 +7,21 @@ use mir.Val.{SFits}
 use mir.Facts.{toZ-ofZ}
 use lib.Dec.{lit≤}
 use lib.Signed.{mag}
+use lib.IntN.{ℤ, pos, negsuc}
+use lib.ListN.{length}
 use borrow.Author.Needs.{needs}
 use Rattle.text.specs.Append.{marked}
 use Rattle.text.specs.Decimal.{signedDecimal}
-use Rattle.text.proofs.Lengths.{signed-length}
+use Rattle.text.proofs.Lengths.{decimal-length}
 use Rattle.list_lines.specs.Lines.{coordinateText}
 use Rattle.list_lines.proofs.put_coordinate.Statement.{statement}
 use Rattle.list_lines.proofs.put_coordinate.Tie as tie
+
+-- a number of 32 bits has at most ten digits and a sign
+short : (z : ℤ) → mag z < 2 ^ 31 → length (signedDecimal z) ≤ 11
+unfolding signedDecimal
+short (pos n) h = let l = decimal-length 9 n (lt-of-lt-of-le h (lit≤ tt)) in omega arith
+short (negsuc n) h = let l = decimal-length 9 (suc n) (lt-of-lt-of-le {m = 2 ^ 31 + 1} (omega arith) (lit≤ tt)) in omega arith
 
 fits : (s : tie.Start) → mag (s .args .z) < 2 ^ 63
 fits s = let h : SFits w32 (s .args .z) = search needs in lt-of-lt-of-le (h .sfits) (lit≤ tt)
@@ -42,8 +50,8 @@ returns c =
     let h : SFits w32 (s .args .z) = search needs in
     let g : SFits w64 (s .args .z) = record { sfits = fits s } in
     let m =
-    marked (s .args .out .now) (s .args .at) (signedDecimal (s .args .z)) 32 20 (u .put-signed .last .0) (b .put-byte .last .0) (u .put-signed .result) (b .put-byte .result)
-    (signed-length (s .args .z) (fits s))
+    marked (s .args .out .now) (s .args .at) (signedDecimal (s .args .z)) 32 11 (u .put-signed .last .0) (b .put-byte .last .0) (u .put-signed .result) (b .put-byte .result)
+    (short (s .args .z) (h .sfits))
     (omega arith)
     (rw (toZ-ofZ h, toZ-ofZ g) at (u .put-signed .ensures))
     (b .put-byte .ensures) in

@@ -5,11 +5,11 @@ use mathlib.Core.List.{List, _++_}
 use native.Mathlib.Omega.{arith}
 use lib.ListN.{length}
 use mir.Syntax.{w32}
-use mir.Val.{SFits}
+use mir.Val.{Fits, SFits}
 use mir.Facts.{toZ-ofZ}
 use borrow.Author.Needs.{needs}
 use Rattle.ring.specs.declared.Point.{Point}
-use Rattle.ring.specs.Point.Exponent.{exponentOf, pulseCount}
+use Rattle.ring.specs.Point.Exponent.{exponentOf, pulseCount, pulse-is}
 use Rattle.text.specs.Append.{Appended, appended, append-more}
 use Rattle.list_lines.specs.Lines.{coordinateText, headText, countText, pointLine}
 use Rattle.list_lines.proofs.put_point.Statement.{statement}
@@ -33,7 +33,7 @@ module _ (h : tie.After-put-bytes) where
   abbrev v : Point
   v = start .args .v
 
-  short-head : length (headText v) ≤ 63
+  short-head : length (headText v) ≤ 36
   short-head = let e = ap length (start .pre .1) in let l = start .pre .2 in omega arith
 
   begun : Appended xs (start .args .at) (headText v) (h .put-bytes .last .0) (h .put-bytes .result)
@@ -44,7 +44,7 @@ module _ (h : tie.After-put-bytes) where
       appended xs (start .args .at) (headText v) (h .put-bytes .last .0) (h .put-bytes .result) (omega arith) (e .0) (e .1)
 
 -- what stands after the five numbers before the last
-module _ (c : tie.After-put-count) where
+module _ (c : tie.After-put-short) where
   abbrev z : tie.After-put-coordinate
   z = c .before .before .before .before
 
@@ -54,21 +54,21 @@ module _ (c : tie.After-put-count) where
   abbrev front : List ℕ
   front = headText (v h) ++ coordinateText (v h .d) ++ countText (counted h .before .exponent .result) 32
 
-  stands : Appended (xs h) (start h .args .at) front (c .put-count .last .0) (c .put-count .result)
+  stands : Appended (xs h) (start h .args .at) front (c .put-short .last .0) (c .put-short .result)
   stands =
       let at = start h .args .at in
       let hd : SFits w32 (v h .d) = search needs in
       let m1 = h .put-bytes .last .0 in
       let m2 = z .put-coordinate .last .0 in
       let a2 = append-more (xs h) at (headText (v h)) (coordinateText (v h .d)) m1 m2 (h .put-bytes .result) (z .put-coordinate .result) (begun h) (rw (toZ-ofZ hd) at (z .put-coordinate .ensures .0)) in
-      append-more (xs h) at (headText (v h) ++ coordinateText (v h .d)) (countText (counted h .before .exponent .result) 32) m2 (c .put-count .last .0) (z .put-coordinate .result) (c .put-count .result) a2 (c .put-count .ensures .0)
+      append-more (xs h) at (headText (v h) ++ coordinateText (v h .d)) (countText (counted h .before .exponent .result) 32) m2 (c .put-short .last .0) (z .put-coordinate .result) (c .put-short .result) a2 (c .put-short .ensures .0)
 
-  short : c .put-count .result ≤ start h .args .at + 105
+  short : c .put-short .result ≤ start h .args .at + 59
   short =
       let l = short-head h in
       let b1 = begun h .end in
       let b2 = z .put-coordinate .ensures .1 in
-      let b3 = c .put-count .ensures .1 in
+      let b3 = c .put-short .ensures .1 in
       omega arith
 
 exponent-requires : tie.Need-exponent-requires
@@ -90,11 +90,11 @@ put-coordinate-requires c κs =
     let r = start h .pre .0 in
     omega arith
 
-cast-put-count : tie.Need-cast-put-count
-cast-put-count c = search needs
+cast-put-short : tie.Need-cast-put-short
+cast-put-short c = search needs
 
-put-count-requires : tie.Need-put-count-requires
-put-count-requires c κs =
+put-short-requires : tie.Need-put-short-requires
+put-short-requires c κs =
     let z = c .before .before .before in
     let h = z .before .before .before .before .before in
     let l = short-head h in
@@ -103,15 +103,21 @@ put-count-requires c κs =
     let b = z .put-coordinate .ensures .1 in
     let s = z .put-coordinate .ensures .0 .same in
     let r = start h .pre .0 in
-    omega arith
+    let x : Fits w32 (counted h .before .exponent .result) = search needs in
+    let y = x .fits in
+    (omega arith, omega arith)
 
-put-count-requires-2 : tie.Need-put-count-requires-2
-put-count-requires-2 c κs =
+put-short-requires-2 : tie.Need-put-short-requires-2
+put-short-requires-2 c κs =
     let p = c .before .before .before in
     let l = stands p .same in
     let s = short p in
     let r = start (h p) .pre .0 in
-    rw l (omega arith)
+    let x : Fits w32 (counted (h p) .before .exponent .result) = search needs in
+    let y = x .fits in
+    let m = counted (h p) .pulse-count .ensures in
+    let i = pulse-is (counted (h p) .before .exponent .result) in
+    (omega arith, rw l (omega arith))
 
 same-length : tie.Need-same-length
 same-length c =
@@ -126,11 +132,11 @@ returns c =
     let b = h p in
     let e = counted b .before .exponent .ensures in
     let m = counted b .pulse-count .ensures in
-    let last = q .put-count2 .ensures in
-    let all = append-more (xs b) (start b .args .at) (front p) (countText (counted b .pulse-count .result) 10) (p .put-count .last .0) (q .put-count2 .last .0) (p .put-count .result) (q .put-count2 .result) (stands p) (last .0) in
+    let last = q .put-short2 .ensures in
+    let all = append-more (xs b) (start b .args .at) (front p) (countText (counted b .pulse-count .result) 10) (p .put-short .last .0) (q .put-short2 .last .0) (p .put-short .result) (q .put-short2 .result) (stands p) (last .0) in
     let s = short p in
     let l = last .1 in
-    (subst (λ (t : List ℕ). Appended (xs b) (start b .args .at) t (q .put-count2 .last .0) (q .put-count2 .result)) (line (start b .args .k) (v b) (counted b .before .exponent .result) (counted b .pulse-count .result) e m) all, omega arith)
+    (subst (λ (t : List ℕ). Appended (xs b) (start b .args .at) t (q .put-short2 .last .0) (q .put-short2 .result)) (line (start b .args .k) (v b) (counted b .before .exponent .result) (counted b .pulse-count .result) e m) all, omega arith)
 
 pub put-point-spec : {M : Type 1} → statement M
 put-point-spec =
@@ -140,8 +146,8 @@ put-point-spec =
     pulse-count-requires
     put-bytes-requires
     put-coordinate-requires
-    cast-put-count
-    put-count-requires
-    put-count-requires-2
+    cast-put-short
+    put-short-requires
+    put-short-requires-2
     same-length
     returns)

@@ -17,10 +17,10 @@ use Rattle.list_lines.proofs.put_points.Tie as tie
 
 -- the first m bytes are the head of a point
 abbrev Spelled : List ℕ → ℕ → Point → Type 0
-Spelled h m v = (length h ≡ 63) × (m ≤ 63) × (take m h ≡ headText v)
+Spelled h m v = (length h ≡ 36) × (m ≤ 36) × (take m h ≡ headText v)
 
 abbrev Inv-loop : tie.InvT-loop
-Inv-loop out₀ points n k last₀ head₀ length₀ at₀ i₀ out last head m at i = (i ≤ n) × (at ≤ 126 * i) × Appended out₀ 0 (linesOf k (take (4 * i) points)) out at × Spelled head m last
+Inv-loop out₀ points n k last₀ head₀ length₀ at₀ i₀ out last head m at i = (i ≤ n) × (at ≤ 70 * i) × Appended out₀ 0 (linesOf k (take (4 * i) points)) out at × Spelled head m last
 
 abbrev μ-loop : tie.MeasureT-loop
 μ-loop out₀ points n k last₀ head₀ length₀ at₀ i₀ out last head m at i = n - i
@@ -33,7 +33,7 @@ module _ (c : tie.In-loop Inv-loop μ-loop) where
   there : 4 * c .before .loop .i + 4 ≤ length (start .args .points .now)
   there = let p = start .pre .0 in let h = c .loop-test .taken in omega arith
 
-  room : c .before .loop .at + 126 ≤ length (c .before .loop .out)
+  room : c .before .loop .at + 70 ≤ length (c .before .loop .out)
   room =
       let p = start .pre .1 in
       let h = c .loop-test .taken in

@@ -19,12 +19,12 @@ module _ (c : tie.After-point-buffer) where
   abbrev start : tie.Start
   start = c .before .before .before
 
-  bounds : (room ≤ 1024) × (room ≤ length (start .args .out .now) / 126)
+  bounds : (room ≤ 2048) × (room ≤ length (start .args .out .now) / 70)
   bounds =
-      let n = length (start .args .out .now) / 126 in
-      let e : room ≡ min 1024 n = c .before .least .ensures in
-      let l = min-le-left 1024 n in
-      let r = min-le-right 1024 n in
+      let n = length (start .args .out .now) / 70 in
+      let e : room ≡ min 2048 n = c .before .least .ensures in
+      let l = min-le-left 2048 n in
+      let r = min-le-right 2048 n in
       (omega arith, omega arith)
 
   lent : length (take (4 * room) (c .point-buffer .result)) ≡ 4 * room
