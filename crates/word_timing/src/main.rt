@@ -1,18 +1,34 @@
 // Calls on words, to be timed: standard input is a mode, one byte, and a word or a text. The call is made again and again, and the sum of its answers is printed.
 use libc::STDIN_FILENO;
-use libc::STDOUT_FILENO;
 use tariff::Tariff;
 
 const TURNS: u64 = 20000;
 
 fn main() {
     let mut mode = [0u8; 1];
-    io::read_full(STDIN_FILENO, &mut mode);
+    streams::read(STDIN_FILENO, b"standard input", &mut mode);
     let mut given = io::large_buffer();
-    let n = io::read_full(STDIN_FILENO, &mut given);
+    let got = streams::read(STDIN_FILENO, b"standard input", &mut given);
+    let n = got.at;
+    if got.failed {
+        return;
+    }
     let mut out = [0u8; 600000];
-    io::print_decimal(STDOUT_FILENO, timed(mode[0], &given[..n], &mut out));
-    io::write_all(STDOUT_FILENO, b"\n");
+    let mut line = io::buffer();
+    let k = put(&mut line, timed(mode[0], &given[..n], &mut out));
+    print(&line, k);
+}
+
+// A number, and the end of its line.
+fn put(out: &mut [u8], sum: u64) -> usize {
+    let at = text::put_unsigned(out, 0, sum);
+    text::put_byte(out, at, b'\n')
+}
+
+fn print(line: &[u8], n: usize) {
+    if n <= line.len() {
+        streams::print(&line[..n]);
+    }
 }
 
 // The sum of what the calls answer.
