@@ -1,8 +1,9 @@
-// Fields of a record, little-endian, in bytes that the caller knows to be there.
+// Fields of a record, little-endian: read from bytes that the caller knows to be there, and the bytes to write.
 ghost use mathlib.Core.Path.{_≡_};
-ghost use Prim.Native.Nat.{_+_, _<_, _≤_};
+ghost use Prim.Native.Nat.{_+_, _%_, _<_, _≤_};
 ghost use lib.ListN.{length};
 ghost use Rattle.fields.specs.Field.{unsignedAt, twos, signedAt};
+ghost use Rattle.fields.specs.Bytes.{littleEndian, bitsOf};
 
 fn wide(x: u8) -> u32
     ensures { λ r. ⌜ (r ≡ x) × (r < 256) ⌝ }
@@ -61,4 +62,39 @@ pub fn i32_at(s: &[u8], k: usize) -> i32
     ensures { λ r. ⌜ r ≡ signedAt 4 (now (s .entry)) k ⌝ }
 {
     signed32(u32_at(s, k))
+}
+
+// The last eight bits of x.
+fn low(x: u32) -> u8
+    ensures { λ r. ⌜ r ≡ x % 256 ⌝ }
+{
+    (x % 256) as u8
+}
+
+// The four bytes of an unsigned number.
+pub fn u32_bytes(x: u32) -> [u8; 4]
+    ensures { λ r. ⌜ r ≡ littleEndian 4 x ⌝ }
+{
+    let y = x / 256;
+    let z = y / 256;
+    [low(x), low(y), low(z), low(z / 256)]
+}
+
+// The bits of x in two's complement, as an unsigned number.
+fn bits32(x: i32) -> u32
+    ensures { λ r. ⌜ r ≡ bitsOf 32 x ⌝ }
+{
+    let n = integers::abs(x as i64);
+    if x < 0 {
+        (0x1_0000_0000 - n) as u32
+    } else {
+        n as u32
+    }
+}
+
+// The four bytes of a signed number.
+pub fn i32_bytes(x: i32) -> [u8; 4]
+    ensures { λ r. ⌜ r ≡ littleEndian 4 (bitsOf 32 x) ⌝ }
+{
+    u32_bytes(bits32(x))
 }

@@ -13,7 +13,9 @@ use Rattle.ring.specs.Point.{ext}
 use Rattle.ranges.specs.Ranges.{topScale}
 use Rattle.equation.specs.Equation.{completes}
 use Rattle.fields.specs.Field.{unsignedAt, signedAt, twos, signed-is}
+use Rattle.sheet.specs.declared.Refusal.{Refusal}
 use Rattle.sheet.specs.declared.Refusal.the-variants.{NoKind, NotASheet, Short, OutOfRange, NotUnitary}
+use Rattle.sheet.specs.declared.Reading.{Reading}
 use Rattle.sheet.specs.declared.Reading.the-variants.{Desk, Crew, Refused}
 use Rattle.sheet.specs.Sheet.{pointAt, kAt, uAt, tAt, ticksAt, sheetAt, mAt, deskOf, crewOf, seenBy, readingOf}
 
@@ -48,6 +50,20 @@ module _ (s s′ : List ℕ) where
       let t : ticksAt s ≡ ticksAt s′ = unsigned-same 4 34 (λ j h i. g j h i) in
       rw (l, f 0 (omega arith), k, u, t) refl
 
+  -- the answer, a refusal too, is made of the number of bytes, the kind, k, m and the ticks
+  pub crew-made : length s ≡ length s′ → getD s 0 0 ≡ getD s′ 0 0 → kAt s ≡ kAt s′ → mAt s ≡ mAt s′ → ticksAt s ≡ ticksAt s′ → readingOf 2 s ≡ readingOf 2 s′
+  unfolding readingOf crewOf
+  crew-made l f k m t = rw (l, f, m, t) (ap (λ (n : ℕ). after n) k)
+    where
+      after : ℕ → Reading
+      after n = cond (eqb (length s′) 0) (Refused NoKind) (cond (eqb (getD s′ 0 0) 7) (cond (ltb (length s′) 38) (Refused Short) (cond (leb n topScale) (Crew (mAt s′) (ticksAt s′) 38) (Refused OutOfRange))) (Refused NotASheet))
+
+-- a byte behind the first 34
+past : (xs ys : List ℕ) (j : ℕ) → length xs ≡ 34 → 34 ≤ j → getD (xs ++ ys) j 0 ≡ getD ys (j - 34) 0
+past xs ys j l i =
+    let b : j ≡ length xs + (j - 34) = omega arith in
+    ap (λ (k : ℕ). getD (xs ++ ys) k 0) b ∙ getD-append-add xs ys (j - 34) 0
+
 -- ---- the 16 bytes of t, whatever stands before and behind them
 pub crew-blind : (front t t′ back : List ℕ) → length front ≡ 18 → length t ≡ 16 → length t′ ≡ 16 → readingOf 2 (front ++ t ++ back) ≡ readingOf 2 (front ++ t′ ++ back)
 crew-blind front t t′ back f g h = crew-bytes (front ++ t ++ back) (front ++ t′ ++ back) (long t g ∙ sym (long t′ h)) (λ j i. first t j i ∙ sym (first t′ j i)) (λ j i k. last t g j i ∙ sym (last t′ h j i))
@@ -59,10 +75,23 @@ crew-blind front t t′ back f g h = crew-bytes (front ++ t ++ back) (front ++ t
     first t j i = List·getD-append (front ++ t) back 0 j (omega (arith, length-append front t)) ∙ List·getD-append front t 0 j (omega arith)
 
     last : (t : List ℕ) → length t ≡ 16 → (j : ℕ) → 34 ≤ j → getD (front ++ t ++ back) j 0 ≡ getD back (j - 34) 0
-    last t e j i =
-        let a : length (front ++ t) ≡ 34 = omega (arith, length-append front t) in
-        let b : j ≡ length (front ++ t) + (j - 34) = omega arith in
-        ap (λ (k : ℕ). getD (front ++ t ++ back) k 0) b ∙ getD-append-add (front ++ t) back (j - 34) 0
+    last t e j i = past (front ++ t) back j (omega (arith, length-append front t)) i
+
+-- ---- the 16 bytes of u and those of t: others with the same m give the same answer, a refusal too
+pub crew-only-m : (front both both′ back : List ℕ) → length front ≡ 2 → length both ≡ 32 → length both′ ≡ 32 → mAt (front ++ both ++ back) ≡ mAt (front ++ both′ ++ back) → readingOf 2 (front ++ both ++ back) ≡ readingOf 2 (front ++ both′ ++ back)
+unfolding Agree
+crew-only-m front both both′ back f g h m =
+    crew-made (front ++ both ++ back) (front ++ both′ ++ back) (long both g ∙ sym (long both′ h)) (first both 0 (omega arith) ∙ sym (first both′ 0 (omega arith))) (first both 1 (omega arith) ∙ sym (first both′ 1 (omega arith))) m
+    (unsigned-same (front ++ both ++ back) (front ++ both′ ++ back) 4 34 (λ j i k. last both g j i ∙ sym (last both′ h j i)))
+  where
+    long : (b : List ℕ) → length b ≡ 32 → length (front ++ b ++ back) ≡ 34 + length back
+    long b e = omega (arith, length-append (front ++ b) back, length-append front b)
+
+    first : (b : List ℕ) (j : ℕ) → j < 2 → getD (front ++ b ++ back) j 0 ≡ getD front j 0
+    first b j i = List·getD-append (front ++ b) back 0 j (omega (arith, length-append front b)) ∙ List·getD-append front b 0 j (omega arith)
+
+    last : (b : List ℕ) → length b ≡ 32 → (j : ℕ) → 34 ≤ j → getD (front ++ b ++ back) j 0 ≡ getD back (j - 34) 0
+    last b e j i = past (front ++ b) back j (omega (arith, length-append front b)) i
 
 -- ---- a sheet with k in range
 pub record IsSheet (s : List ℕ) : Type 0 where
@@ -93,6 +122,22 @@ crew-accepts s m n k e = go (eqb (length s) 0) (eqb (getD s 0 0) 7) (ltb (length
     go false false c d f g h e = absurd (let z : _≡_ {A = ℕ} 0 1 = cc in omega arith)
     go false true true d f g h e = absurd (let z : _≡_ {A = ℕ} 0 1 = cc in omega arith)
     go false true false false f g h e = absurd (let z : _≡_ {A = ℕ} 0 1 = cc in omega arith)
+
+-- "m and the ticks and nothing more": an answer to the crew holds two numbers, or says why there is none
+pub data ForCrew : Reading → Type 0 where
+  seen : (m ticks : ℕ) → ForCrew (Crew m ticks 38)
+  none : (why : Refusal) → ForCrew (Refused why)
+
+pub crew-form : (s : List ℕ) → ForCrew (readingOf 2 s)
+unfolding readingOf crewOf
+crew-form s = go (eqb (length s) 0) (eqb (getD s 0 0) 7) (ltb (length s) 38) (leb (kAt s) topScale)
+  where
+    go : (a b c d : Bool) → ForCrew (cond a (Refused NoKind) (cond b (cond c (Refused Short) (cond d (Crew (mAt s) (ticksAt s) 38) (Refused OutOfRange))) (Refused NotASheet)))
+    go true b c d = none NoKind
+    go false false c d = none NotASheet
+    go false true true d = none Short
+    go false true false false = none OutOfRange
+    go false true false true = seen (mAt s) (ticksAt s)
 
 -- "two sheets with k in range and equal m and ticks look the same to them", and no others do
 pub crew-same : (s s′ : List ℕ) → IsSheet s → IsSheet s′ → (readingOf 2 s ≡ readingOf 2 s′) ↔ ((mAt s ≡ mAt s′) × (ticksAt s ≡ ticksAt s′))

@@ -11,7 +11,7 @@ use Rattle.equation.specs.Equation.{completes}
 use Rattle.fields.specs.Field.{unsignedAt, signedAt}
 use Rattle.sheet.specs.declared.Sheet.{Sheet}
 use Rattle.sheet.specs.declared.Refusal.{Refusal}
-use Rattle.sheet.specs.declared.Refusal.the-variants.{NoKind, NotASheet, Short, OutOfRange, NotUnitary, NoReader}
+use Rattle.sheet.specs.declared.Refusal.the-variants.{NoKind, NotASheet, Short, OutOfRange, NotUnitary, NoRoom, NoReader}
 use Rattle.sheet.specs.declared.Reading.{Reading}
 use Rattle.sheet.specs.declared.Reading.the-variants.{Desk, Crew, Refused}
 
@@ -22,6 +22,7 @@ numberOf NotASheet = 2
 numberOf Short = 3
 numberOf OutOfRange = 4
 numberOf NotUnitary = 12
+numberOf NoRoom = 13
 numberOf NoReader = 19
 
 -- "kind 07, body 37 bytes: k (0 to 20), the four numbers of u, the four of t (signed 32 bits), ticks (unsigned 32)"; places count from the kind byte

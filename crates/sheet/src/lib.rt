@@ -1,9 +1,12 @@
-// Pattern sheets and their two readers: document 02, Ticket 14. A reading takes one sheet from the front of the bytes given, or refuses it.
+// Pattern sheets, their two readers and their writer: document 02, Ticket 14. A reading takes one sheet from the front of the bytes given, or refuses it.
 ghost use mathlib.Core.Path.{_≡_};
 ghost use Prim.Native.Nat.{_+_, _≤_};
 ghost use lib.ListN.{length};
 ghost use Rattle.ranges.specs.Ranges.{topScale};
 ghost use Rattle.sheet.specs.Sheet.{numberOf, kAt, pointAt, sheetAt, deskOf, crewOf, readingOf};
+ghost use Rattle.sheet.specs.Write.{numberBytes, pointBytes, bytesOf, Writes};
+ghost use Rattle.text.specs.Written.{written};
+ghost use Rattle.text.specs.Append.{Appended};
 use ring::Point;
 
 // The desk and the line crew.
@@ -24,13 +27,14 @@ pub struct Sheet {
     pub ticks: u32,
 }
 
-// Why a sheet is not read; the numbers are `numberOf` of specs/Sheet.
+// Why a sheet is not read or not written; the numbers are `numberOf` of specs/Sheet.
 pub enum Refusal {
     NoKind,
     NotASheet,
     Short,
     OutOfRange,
     NotUnitary,
+    NoRoom,
     NoReader,
 }
 
@@ -38,6 +42,12 @@ pub enum Refusal {
 pub enum Reading {
     Desk(Sheet, usize),
     Crew(u64, u32, usize),
+    Refused(Refusal),
+}
+
+// How many bytes were written.
+pub enum Writing {
+    Wrote(usize),
     Refused(Refusal),
 }
 
@@ -51,6 +61,7 @@ impl Refusal {
             Refusal::Short => 3,
             Refusal::OutOfRange => 4,
             Refusal::NotUnitary => 12,
+            Refusal::NoRoom => 13,
             Refusal::NoReader => 19,
         }
     }
@@ -83,6 +94,23 @@ pub fn read(reader: u8, bytes: &[u8]) -> Reading
     } else {
         crew(bytes)
     }
+}
+
+// The bytes of a sheet at the front of a slice. A sheet that the desk's reading refuses is not written.
+pub fn write(sheet: Sheet, out: &mut [u8]) -> Writing
+    ensures { λ r. ⌜ Writes sheet (now (out .entry)) (now (out .exit)) r ⌝ }
+{
+    if !ranges::scale(sheet.k) {
+        return Writing::Refused(Refusal::OutOfRange);
+    }
+    if !equation::completes(sheet.k, sheet.u, sheet.t) {
+        return Writing::Refused(Refusal::NotUnitary);
+    }
+    if out.len() < LENGTH {
+        return Writing::Refused(Refusal::NoRoom);
+    }
+    put_sheet(out, sheet);
+    Writing::Wrote(LENGTH)
 }
 
 // The desk sees every field, of a sheet whose u and t make a unitary matrix.
@@ -134,4 +162,33 @@ fn point_at(s: &[u8], i: usize) -> Point
         c: fields::i32_at(s, i + 8),
         d: fields::i32_at(s, i + 12),
     }
+}
+
+// All bytes of a sheet.
+fn put_sheet(out: &mut [u8], sheet: Sheet)
+    requires { ⌜ 38 ≤ length (now out) ⌝ }
+    ensures { λ _. ⌜ now (out .exit) ≡ written (now (out .entry)) 0 (bytesOf sheet) ⌝ }
+{
+    let a = text::put_bytes(out, 0, &[KIND, sheet.k]);
+    let b = put_point(out, a, sheet.u);
+    let c = put_point(out, b, sheet.t);
+    text::put_bytes(out, c, &fields::u32_bytes(sheet.ticks));
+}
+
+// The four numbers of a point from place `at` on, and the place after them.
+fn put_point(out: &mut [u8], at: usize, p: Point) -> usize
+    requires { ⌜ at + 16 ≤ length (now out) ⌝ }
+    ensures { λ r. ⌜ Appended (now (out .entry)) at (pointBytes p) (now (out .exit)) r ⌝ }
+{
+    let a = put_number(out, at, p.a);
+    let b = put_number(out, a, p.b);
+    let c = put_number(out, b, p.c);
+    put_number(out, c, p.d)
+}
+
+fn put_number(out: &mut [u8], at: usize, x: i32) -> usize
+    requires { ⌜ at + 4 ≤ length (now out) ⌝ }
+    ensures { λ r. ⌜ Appended (now (out .entry)) at (numberBytes x) (now (out .exit)) r ⌝ }
+{
+    text::put_bytes(out, at, &fields::i32_bytes(x))
 }

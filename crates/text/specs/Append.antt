@@ -1,12 +1,12 @@
 -- Text put after text: what stands before a place, and then more. Assumes nothing.
 use Prim.Native.Nat.{ℕ, _+_, _≤_}
-use mathlib.Core.Path.{_≡_, sym, ap, _∙_}
+use mathlib.Core.Path.{_≡_, refl, sym, ap, ap₂, _∙_}
 use mathlib.Core.List.{List, [], _∷_, _++_, append-assoc}
 use native.Mathlib.Omega.{arith}
 use native.Mathlib.Nat.{min-le-right}
 use native.Mathlib.Decide.{decLe}
 use borrow.Author.Tests.{le-leb, lt-leb}
-use lib.ListN.{length, take, drop, length-append, length-take, length-drop}
+use lib.ListN.{length, take, drop, length-append, length-take, length-drop, take-append-drop}
 use lib.Seq.{take-at, drop-at, drop-drop, length-take-le}
 use Rattle.text.specs.Written.{written, after}
 
@@ -39,6 +39,23 @@ module _ (xs : List ℕ) (at : ℕ) (ys : List ℕ) where
     same = b .same ∙ a .same;
     past = b .past ∙ rw (b .end) (sym (drop-drop (length zs) r mid) ∙ ap (drop (length zs)) (a .past) ∙ drop-drop (length zs) r xs);
   }
+
+-- the same, where the second writer says what it put
+pub append-put : (xs : List ℕ) (at : ℕ) (ys zs mid : List ℕ) (r : ℕ) {out : List ℕ} {r′ : ℕ} → Appended xs at ys mid r → at + length ys + length zs ≤ length xs
+    → (out ≡ written mid r zs) × (r′ ≡ after mid r zs) → Appended xs at (ys ++ zs) out r′
+append-put xs at ys zs mid r {out} {r′} a h p =
+    append-more xs at ys zs mid out r r′ a (appended mid r zs out r′ (omega (arith, a .end, a .same)) (p .0) (p .1))
+
+-- ---- from the start of a list: nothing yet, and all of it
+pub append-none : (xs : List ℕ) → Appended xs 0 [] xs 0
+append-none xs = record { text = refl; end = refl; same = refl; past = refl }
+
+pub append-whole : (xs ys out : List ℕ) (r : ℕ) → length ys ≤ length xs → Appended xs 0 ys out r → out ≡ written xs 0 ys
+unfolding written
+append-whole xs ys out r h a =
+    let e : r ≡ 0 + length ys = a .end in
+    let fit = le-leb (0 + length ys) (length xs) (omega arith) in
+    sym (take-append-drop r out) ∙ ap₂ _++_ (a .text) (a .past ∙ ap (λ (k : ℕ). drop k xs) e) ∙ sym (simp fit)
 
 -- text of at most n bytes and a mark after it
 pub marked : (xs : List ℕ) (at : ℕ) (ys : List ℕ) (mark n : ℕ) (mid out : List ℕ) (r r′ : ℕ) → length ys ≤ n → at + n + 1 ≤ length xs → (mid ≡ written xs at ys) × (r ≡ after xs at ys)
