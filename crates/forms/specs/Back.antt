@@ -15,7 +15,8 @@ use lib.Seq.{drop-cons, take-add, drop-drop}
 use borrow.Author.Tests.{ltb-true, ltb-false, lt-ltb}
 use Rattle.fields.specs.Field.{unsignedAt, signedAt, signed-is, twos, twos-low, twos-high}
 use Rattle.fields.specs.Bytes.{littleEndian, bitsOf, length-bytes, unsigned-back, signed-back}
-use Rattle.forms.specs.Forms.{Field, takes, takesAll, numberAt, numbersAt, fieldBytes, bodyBytes}
+use Rattle.forms.specs.declared.Field.{Field}
+use Rattle.forms.specs.Forms.{takes, takesAll, numberAt, numbersAt, fieldBytes, bodyBytes}
 
 -- bits and bytes
 pub bits-bytes : (n : ℕ) → 2 ^ (8 * n) ≡ 256 ^ n

@@ -9,11 +9,7 @@ use Rattle.kinds.specs.declared.Kind.{Kind}
 use Rattle.kinds.specs.declared.Kind.the-variants as K
 use Rattle.fields.specs.Field.{unsignedAt, signedAt}
 use Rattle.fields.specs.Bytes.{littleEndian, bitsOf}
-
--- signed or not, and how many bytes
-pub record Field : Type 0 where
-  pub signed : Bool
-  pub size : ℕ
+use Rattle.forms.specs.declared.Field.{Field}
 
 abbrev u : ℕ → Field
 u n = record { signed = false; size = n }
@@ -32,7 +28,7 @@ fieldsOf K.Selection = u 1 ∷ []
 fieldsOf K.Unknown = []
 
 -- the byte of a kind
-unfoldable pub kindByte : Kind → ℕ
+abbrev pub kindByte : Kind → ℕ
 kindByte K.Scale = 1
 kindByte K.Rectangle = 2
 kindByte K.Ellipse = 3
