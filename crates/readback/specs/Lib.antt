@@ -1,0 +1,2 @@
+-- What `forms` writes, `record` reads.
+pub mod Read
