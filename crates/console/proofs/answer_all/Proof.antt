@@ -42,8 +42,14 @@ answer-requires c κs = step-fits (c .before .before .before .before .before .be
 same-length : tie.Need-same-length Inv-loop μ-loop
 same-length c = let k = c .before .before .before .before .before .before .before .before .before .before .before .before .before in step-length (k .take .ensures) ∙ turn k .before .loop .inv .1 .0
 
+-- an answer keeps the length of its slice
+answer-length : (a : tie.After-answer Inv-loop μ-loop) → length (a .answer .last .1 .1 .1 .0) ≡ length (turn (a .before .before .before .before .before .before .before .before) .before .loop .out)
+answer-length a = search needs
+
 same-length-2 : tie.Need-same-length-2 Inv-loop μ-loop
-same-length-2 c = search needs
+same-length-2 c =
+    let a = c .before .before .before .before .before in
+    answer-length a ∙ turn (a .before .before .before .before .before .before .before .before) .before .loop .inv .1 .1 .0
 
 returns : tie.Need-returns Inv-loop μ-loop
 returns c =
