@@ -3,7 +3,6 @@ ghost use mathlib.Core.Path.{_≡_};
 ghost use lib.ListN.{length};
 use arguments::Four;
 use arguments::Scaled;
-use gate_words::Part;
 use replies::put_bad;
 use ring::Point;
 use wording::Numbers;
@@ -58,7 +57,8 @@ fn put_spelled(out: &mut [u8], n: Numbers) -> usize {
     };
     let mut first = letter_buffer();
     let mut second = letter_buffer();
-    spelled(out, a, &mut first, &mut second)
+    let mut part = letter_buffer();
+    spelled(out, a, &mut first, &mut second, &mut part)
 }
 
 // The letters that a line may lend, each shown as a dot until it is written.
@@ -68,7 +68,13 @@ fn letter_buffer() -> [u8; 4096]
     [b'.'; 4096]
 }
 
-fn spelled<'a>(out: &mut [u8], a: Asked, first: &'a mut [u8], second: &'a mut [u8]) -> usize {
+fn spelled<'a>(
+    out: &mut [u8],
+    a: Asked,
+    first: &'a mut [u8],
+    second: &'a mut [u8],
+    part: &'a mut [u8],
+) -> usize {
     let l = a.l;
     let m = a.m;
     if first.len() < l {
@@ -77,25 +83,24 @@ fn spelled<'a>(out: &mut [u8], a: Asked, first: &'a mut [u8], second: &'a mut [u
     if second.len() < m {
         return put_bad(out);
     }
-    let p = gate_words::spell_part(a.k, a.u, a.t, &mut first[..l], &mut second[..m]);
-    if p.number != 0 {
-        return replies::put_refused(out, p.number);
+    let c = word_part::word_part(a.k, a.u, a.t, &mut first[..l], &mut second[..m], part);
+    if c.number != 0 {
+        return replies::put_refused(out, c.number);
     }
-    answered(out, p, first, second, l, m)
+    let at = text::put_bytes(out, 0, b"ok");
+    let at = front(out, at, part, c.len);
+    answered(out, at, first, second, l, m)
 }
 
-// The part handed back, then both slices.
+// Both slices, after the part handed back.
 fn answered<'a>(
     out: &mut [u8],
-    p: Part,
+    at: usize,
     first: &'a [u8],
     second: &'a [u8],
     l: usize,
     m: usize,
 ) -> usize {
-    let part = gate_words::chosen(p, first, second);
-    let at = text::put_bytes(out, 0, b"ok");
-    let at = shown(out, at, part);
     let at = front(out, at, first, l);
     let at = front(out, at, second, m);
     text::put_byte(out, at, b'\n')

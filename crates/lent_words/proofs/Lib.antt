@@ -1,4 +1,4 @@
 mod Again
-mod Data
+pub mod Data
 mod Shared
 mod Two
