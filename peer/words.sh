@@ -1,7 +1,7 @@
 #!/usr/bin/env bash
 # words.sh CONSOLE [SEED [COUNT]]: compares the answers of CONSOLE with the
-# peer's on random lines of the calls on words and sheets, 200 to a run, as a
-# console takes 131,072 bytes. Keeps the first script that differs.
+# peer's on random lines of the calls on words and sheets, 200 to a run. Keeps
+# the first script that differs.
 set -u
 [ $# -ge 1 ] || { echo "usage: $0 CONSOLE [SEED [COUNT]]" >&2; exit 2; }
 console=$1 seed=${2:-1} count=${3:-20000}
