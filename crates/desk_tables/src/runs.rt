@@ -7,10 +7,15 @@ pub fn right(x: &[u8], y: &[u8], z: &[u8], tray: bool) -> bool {
     let v = row.values;
     let times = cells::size(v[0]);
     let run = cells::size(v[1]);
-    let mut space = [0u8; 600000];
+    let mut space = room();
     let n = fill(&mut space, times, run, small(v[2]), small(v[3]));
     let k = cells::within(n, &space);
     quotes::answered(x, &space[..k], z, tray)
+}
+
+// Zeros for eight words of 65,536 letters, each with its line feed, and more.
+fn room() -> [u8; 600000] {
+    [0; 600000]
 }
 
 // A number as a byte; 0 where it is none.

@@ -13,10 +13,15 @@ fn main() {
     if got.failed {
         return;
     }
-    let mut out = [0u8; 600000];
+    let mut out = room();
     let mut line = io::buffer();
     let k = put(&mut line, timed(mode[0], &given[..n], &mut out));
     print(&line, k);
+}
+
+// Zeros for the text of a word of 65,536 letters.
+fn room() -> [u8; 600000] {
+    [0; 600000]
 }
 
 // A number, and the end of its line.
