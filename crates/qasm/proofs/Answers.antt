@@ -4,6 +4,7 @@ use mathlib.Core.Bool.{true, false}
 use mathlib.Core.List.{List}
 use Prim.Native.Nat.{ℕ, _*_, _/_, _≤_, _<_}
 use native.Mathlib.Omega.{arith}
+use lib.Dec.{leb}
 use lib.ListN.{length}
 use borrow.Author.Tests.{le-leb, lt-leb}
 use Rattle.text.specs.Written.{written}
@@ -47,20 +48,10 @@ module _ (t s : List ℕ) where
   read-none e = record { answers = rw e refl; slice = rw e refl }
 
   module _ (e : isText t ≡ true) where
-    pub read-full : length s < length t / 8 → Reads t s s (Refused NoRoom)
+    pub read-full : leb (length t / 8) (length s) ≡ false → {s′ : List ℕ} → s′ ≡ written s 0 word → Reads t s s′ (Refused NoRoom)
     unfolding readOf wordAfter
-    read-full h =
-        let f = length-word t in
-        record {
-          answers = rw (e, lt-leb (length word) (length s) (omega arith)) refl;
-          slice = rw e (put-not s 0 word (omega arith) .0);
-        }
+    read-full h g = record { answers = rw (e, length-word t, h) refl; slice = rw e g }
 
-    pub read-done : length t / 8 ≤ length s → {s′ : List ℕ} → s′ ≡ written s 0 word → Reads t s s′ (Wrote (length t / 8))
+    pub read-done : leb (length t / 8) (length s) ≡ true → {s′ : List ℕ} → s′ ≡ written s 0 word → Reads t s s′ (Wrote (length t / 8))
     unfolding readOf wordAfter
-    read-done h g =
-        let f = length-word t in
-        record {
-          answers = rw (e, le-leb (length word) (length s) (omega arith), f) refl;
-          slice = rw e g;
-        }
+    read-done h g = record { answers = rw (e, length-word t, h) refl; slice = rw e g }

@@ -1,5 +1,5 @@
 -- What the code meets that reads: the lines of a text, and its word. Assumes nothing.
-use mathlib.Core.Path.{_≡_, refl, ap, _∙_}
+use mathlib.Core.Path.{_≡_, refl, sym, ap, _∙_}
 use mathlib.Core.Bool.{Bool, true, false, _&&_}
 use mathlib.Core.List.{List}
 use Prim.Native.Nat.{ℕ, zero, suc, _+_, _-_, _*_, _/_, _%_, _≤_, _<_}
@@ -7,11 +7,11 @@ use native.Mathlib.Nat.{le-of-eq}
 use native.Mathlib.Numerals.{add-one}
 use native.Mathlib.Omega.{arith}
 use lib.ListN.{length, getD, set}
-use lib.Seq.{take-all, paste, paste-suc}
+use lib.Seq.{take-all, paste, paste-zero, paste-suc}
 use borrow.Author.Tests.{eq-eqb, ne-eqb}
 use Rattle.integers.specs.Booleans.{iff}
 use Rattle.text.specs.Written.{written}
-use Rattle.text.proofs.Writing.{put-fits}
+use Rattle.text.proofs.Writing.{put-fits, put-not}
 use Rattle.alphabet.specs.Letters.{H, S, T, byte, bytes, length-bytes}
 use Rattle.qasm.specs.Text.{line, same, isLine, lineAt, areLines, isText, gateOf, wordWithin, wordOf}
 use Rattle.qasm.specs.Lines.{same-true, true-same}
@@ -93,20 +93,27 @@ letter-within (suc n) s (suc i) h =
     let e : n - 1 - i ≡ suc n - 1 - suc i = omega arith in
     letter-within n s i (omega arith) ∙ ap (λ (j : ℕ). byte (gateOf (getD s (8 * j) 0))) e
 
-module _ (s out : List ℕ) (room : length s / 8 ≤ length out) where
+module _ (s out : List ℕ) where
   abbrev word : List ℕ
   word = bytes (wordOf s)
 
-  pub letter-more : (i x : ℕ) (l : List ℕ) → i < length s / 8 → l ≡ paste out 0 word i → x ≡ byte (gateOf (getD s (8 * (length s / 8 - 1 - i)) 0)) → set l i x ≡ paste out 0 word (i + 1)
+  pub letter-more : (i x : ℕ) (l : List ℕ) → i < length s / 8 → i < length out → l ≡ paste out 0 word i → x ≡ byte (gateOf (getD s (8 * (length s / 8 - 1 - i)) 0)) → set l i x ≡ paste out 0 word (i + 1)
   unfolding wordOf
-  letter-more i x l h p a =
+  letter-more i x l h room p a =
       let n = length-word s in
       let z : i ≡ 0 + i = omega arith in
       rw (a, p, ← letter-within (length s / 8) s i h, add-one)
       (ap (λ (k : ℕ). set (paste out 0 word i) k (getD word i 0)) z ∙ paste-suc out 0 word i 0 (omega arith) (omega arith))
 
-  pub word-all : (i : ℕ) (l : List ℕ) → i ≡ length s / 8 → l ≡ paste out 0 word i → l ≡ written out 0 word
-  word-all i l e p =
+  -- all letters are there, where they fit
+  pub word-all : length s / 8 ≤ length out → (i : ℕ) (l : List ℕ) → i ≡ length s / 8 → l ≡ paste out 0 word i → l ≡ written out 0 word
+  word-all room i l e p =
       let n = length-word s in
       let m : i ≡ length word = omega arith in
       p ∙ rw (m, take-all (length word) word (le-of-eq refl)) (put-fits out 0 word (omega arith) .0)
+
+  -- none is there, where they do not
+  pub word-none : length out < length s / 8 → (i : ℕ) (l : List ℕ) → i ≡ 0 → l ≡ paste out 0 word i → l ≡ written out 0 word
+  word-none full i l e p =
+      let n = length-word s in
+      p ∙ ap (paste out 0 word) e ∙ sym (paste-zero out 0 word) ∙ put-not out 0 word (omega arith) .0

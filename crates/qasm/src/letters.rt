@@ -1,6 +1,7 @@
 // The word of a text.
 ghost use mathlib.Core.Path.{_≡_};
-ghost use Prim.Native.Nat.{_/_, _≤_};
+ghost use Prim.Native.Nat.{_/_};
+ghost use lib.Dec.{leb};
 ghost use lib.ListN.{length};
 ghost use Rattle.text.specs.Written.{written};
 ghost use Rattle.alphabet.specs.Letters.{byte, bytes};
@@ -17,16 +18,19 @@ fn letter(b: u8) -> u8
     }
 }
 
-// The letters of the lines, from the last line to the first.
-pub(crate) fn put_word(text: &[u8], word: &mut [u8])
-    requires { ⌜ length (now text) / 8 ≤ length (now word) ⌝ }
-    ensures { λ _. ⌜ now (word .exit) ≡ written (now (word .entry)) 0 (bytes (wordOf (now (text .entry)))) ⌝ }
+// The letters of the lines, from the last line to the first, and whether they fit. Where they do not, no byte is written.
+pub(crate) fn put_word(text: &[u8], word: &mut [u8]) -> bool
+    ensures { λ r. ⌜ (r ≡ leb (length (now (text .entry)) / 8) (length (now (word .entry)))) × (now (word .exit) ≡ written (now (word .entry)) 0 (bytes (wordOf (now (text .entry))))) ⌝ }
 {
     let n = text.len() / 8;
+    let room = word.len();
+    let fits = n <= room;
+    let end = if fits { n } else { 0 };
     let mut i = 0;
-    while i < n {
+    while i < end {
         let at = 8 * (n - 1 - i);
         word[i] = letter(text[at]);
         i += 1;
     }
+    fits
 }

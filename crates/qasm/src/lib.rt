@@ -59,10 +59,9 @@ pub fn read(text: &[u8], word: &mut [u8]) -> Answer
     if !is_text(text) {
         return Answer::Refused(Refusal::NotALine);
     }
-    let n = text.len() / 8;
-    if word.len() < n {
+    let fits = put_word(text, word);
+    if !fits {
         return Answer::Refused(Refusal::NoRoom);
     }
-    put_word(text, word);
-    Answer::Wrote(n)
+    Answer::Wrote(text.len() / 8)
 }

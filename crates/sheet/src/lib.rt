@@ -100,10 +100,12 @@ pub fn read(reader: u8, bytes: &[u8]) -> Reading
 pub fn write(sheet: Sheet, out: &mut [u8]) -> Writing
     ensures { λ r. ⌜ Writes sheet (now (out .entry)) (now (out .exit)) r ⌝ }
 {
-    if !ranges::scale(sheet.k) {
+    let ranged = ranges::scale(sheet.k);
+    let unitary = equation::completes(sheet.k, sheet.u, sheet.t);
+    if !ranged {
         return Writing::Refused(Refusal::OutOfRange);
     }
-    if !equation::completes(sheet.k, sheet.u, sheet.t) {
+    if !unitary {
         return Writing::Refused(Refusal::NotUnitary);
     }
     if out.len() < LENGTH {

@@ -1,15 +1,19 @@
 -- What the code of one word meets: the sum from a place on, and the ticks by the code's tests. Assumes nothing.
-use mathlib.Core.Path.{_≡_, refl, ap}
+use mathlib.Core.Path.{_≡_, refl, sym, ap}
 use mathlib.Core.Bool.{true, false}
 use mathlib.Core.List.{List}
 use Prim.Native.Nat.{ℕ, _+_, _-_, _≤_, _<_}
+use native.Mathlib.Omega.{arith}
+use lib.Dec.{leb}
 use lib.ListN.{length, getD, drop}
-use borrow.Author.Tests.{le-leb, lt-leb}
 use Rattle.alphabet.specs.Letters.{letterOf, lettersOf, areLetters, letters-end, letters-more}
 use Rattle.tariff.specs.declared.Tariff.{Tariff}
 use Rattle.tariff.specs.declared.Refusal.the-variants.{OutOfRange, NotALetter}
+use Rattle.tariff.specs.declared.Answer.the-variants as C
+use Rattle.tariff.specs.declared.price.Ticks.{Ticks}
 use Rattle.tariff.specs.declared.price.Ticks.the-variants.{Sum, Refused}
-use Rattle.tariff.specs.Tariff.{topLength, price, inRange, sumOf, rounded, ticksOf}
+use Rattle.tariff.specs.Tariff.{topLength, price, inRange, sumOf, rounded, ticksOf, Small, answered, costOf}
+use Rattle.tariff.specs.Laws.{ticks-small}
 
 -- ---- the sum from a place on
 module _ (p : Tariff) (w : List ℕ) where
@@ -29,15 +33,23 @@ module _ (p : Tariff) (w : List ℕ) where
   unfolding ticksOf
   ticks-price e = rw e refl
 
+  pub cost-price : (m : ℕ) → inRange p ≡ false → C.Refused OutOfRange ≡ costOf p w m
+  unfolding costOf
+  cost-price m e = ap (answered m) (ticks-price e)
+
   module _ (e : inRange p ≡ true) where
-    pub ticks-long : topLength < length w → Refused OutOfRange ≡ ticksOf p w
+    pub ticks-long : leb (length w) topLength ≡ false → Refused OutOfRange ≡ ticksOf p w
     unfolding ticksOf
-    ticks-long h = rw (e, lt-leb (length w) topLength h) refl
+    ticks-long h = rw (e, h) refl
 
-    pub ticks-letter : length w ≤ topLength → areLetters w ≡ false → Refused NotALetter ≡ ticksOf p w
+    pub ticks-letter : leb (length w) topLength ≡ true → areLetters w ≡ false → Refused NotALetter ≡ ticksOf p w
     unfolding ticksOf
-    ticks-letter h f = rw (e, le-leb (length w) topLength h, f) refl
+    ticks-letter h f = rw (e, h, f) refl
 
-    pub ticks-sum : length w ≤ topLength → areLetters w ≡ true → Sum (rounded (sumOf p (lettersOf w))) ≡ ticksOf p w
+    pub ticks-sum : leb (length w) topLength ≡ true → areLetters w ≡ true → Sum (rounded (sumOf p (lettersOf w))) ≡ ticksOf p w
     unfolding ticksOf
-    ticks-sum h f = rw (e, le-leb (length w) topLength h, f) refl
+    ticks-sum h f = rw (e, h, f) refl
+
+  pub ticks-fit : (x : Ticks) → x ≡ ticksOf p w → Small x
+  ticks-fit (Sum n) e = omega (arith, ticks-small p w n (sym e))
+  ticks-fit (Refused why) e = tt

@@ -3,22 +3,24 @@ use mathlib.Core.Path.{_≡_, refl, sym, ap, ap₂, _∙_}
 use mathlib.Core.Bool.{Bool, true, false, cond, _&&_}
 use mathlib.Core.List.{List, [], _∷_}
 use Prim.Native.Nat.{ℕ, suc, _+_, _-_, _≤_, _<_}
+use native.Mathlib.Decide.{decLt}
 use native.Mathlib.Numerals.{add-one}
 use native.Mathlib.Omega.{arith}
 use lib.Dec.{eqb, leb}
 use lib.ListN.{length, getD, take, drop, length-drop, drop-of-length-le}
 use lib.Seq.{drop-cons, drop-drop, take-length, getD-drop}
-use borrow.Author.Tests.{eqb-true, eq-eqb, ne-eqb, leb-true}
+use borrow.Author.Tests.{eqb-true, eq-eqb, ne-eqb, leb-true, le-leb, lt-leb}
 use Rattle.integers.specs.Booleans.{both-true}
 use Rattle.bytes.specs.Bytes.{slice, indexAfter, indexOf}
 use Rattle.tariff.specs.declared.Tariff.{Tariff}
 use Rattle.tariff.specs.declared.Refusal.{Refusal}
-use Rattle.tariff.specs.declared.Refusal.the-variants.{NotATray}
+use Rattle.tariff.specs.declared.Refusal.the-variants.{OutOfRange, NotATray}
 use Rattle.tariff.specs.declared.Answer.the-variants as C
 use Rattle.tariff.specs.declared.price.Ticks.{Ticks}
 use Rattle.tariff.specs.declared.price.Ticks.the-variants.{Sum, Refused}
-use Rattle.tariff.specs.Tariff.{ticksOf, answered}
-use Rattle.tariff.specs.Tray.{begun, wordsOf, closes, isTray, plus, totalOf, trayOf}
+use Rattle.tariff.specs.Tariff.{inRange, ticksOf, answered}
+use Rattle.tariff.specs.Tray.{begun, wordsOf, closes, isTray, sizeOf, plus, totalOf, trayOf}
+use Rattle.tariff.proofs.Prices.{ticks-price}
 
 -- ---- the words from a place on: one more, or not
 count-begun : (b : ℕ) (ws : List (List ℕ)) → length (begun b ws) ≡ length ws
@@ -43,29 +45,7 @@ pub count-end : (s : List ℕ) (i : ℕ) → length s ≤ i → length (wordsOf 
 unfolding wordsOf
 count-end s i h = ap (λ (l : List ℕ). length (wordsOf l)) (drop-of-length-le s h)
 
--- ---- a tray, by the code's tests
-module _ (s : List ℕ) where
-  pub tray-none : length s ≡ 0 → false ≡ isTray s
-  unfolding isTray
-  tray-none e = go s e
-    where
-      go : (s : List ℕ) → length s ≡ 0 → false ≡ closes s && leb (length (wordsOf s)) 8
-      go [] e = refl
-      go (b ∷ s) e = absurd (omega arith)
-
-  pub tray-closed : getD s (length s - 1) 0 ≡ 10 → leb (length (wordsOf s)) 8 ≡ isTray s
-  unfolding isTray
-  tray-closed e = rw (eq-eqb (getD s (length s - 1) 0) 10 e) refl
-
-  pub tray-open : (getD s (length s - 1) 0 ≡ 10 → ⊥) → false ≡ isTray s
-  unfolding isTray
-  tray-open f = rw (ne-eqb (getD s (length s - 1) 0) 10 f) refl
-
-  pub tray-facts : isTray s ≡ true → (getD s (length s - 1) 0 ≡ 10) × (length (wordsOf s) ≤ 8)
-  unfolding isTray
-  tray-facts e = let (c, n) = both-true (closes s) (leb (length (wordsOf s)) 8) e in (eqb-true (getD s (length s - 1) 0) 10 c, leb-true (length (wordsOf s)) 8 n)
-
--- ---- the next word: up to the next line feed
+-- ---- the first word: up to the first line feed
 index-first : (l : List ℕ) → indexOf 10 l < length l → wordsOf l ≡ take (indexOf 10 l) l ∷ wordsOf (drop (suc (indexOf 10 l)) l)
 unfolding wordsOf indexOf indexAfter
 index-first [] h = absurd (omega arith)
@@ -88,6 +68,59 @@ index-last (b ∷ c ∷ l) h e =
     go true r = omega arith
     go false r = omega arith
 
+-- ---- a tray, by the code's tests
+module _ (s : List ℕ) where
+  not-tray : isTray s ≡ false → 0 ≡ sizeOf s
+  not-tray e = rw e refl
+
+  pub size-none : length s ≡ 0 → 0 ≡ sizeOf s
+  unfolding isTray
+  size-none e = not-tray (go s e)
+    where
+      go : (s : List ℕ) → length s ≡ 0 → closes s && leb (length (wordsOf s)) 8 ≡ false
+      go [] e = refl
+      go (b ∷ s) e = absurd (omega arith)
+
+  pub size-open : (getD s (length s - 1) 0 ≡ 10 → ⊥) → 0 ≡ sizeOf s
+  unfolding isTray
+  size-open f = not-tray (rw (ne-eqb (getD s (length s - 1) 0) 10 f) refl)
+
+  module _ (e : getD s (length s - 1) 0 ≡ 10) where
+    pub size-many : 8 < length (wordsOf s) → 0 ≡ sizeOf s
+    unfolding isTray
+    size-many h = not-tray (rw (eq-eqb (getD s (length s - 1) 0) 10 e, lt-leb (length (wordsOf s)) 8 h) refl)
+
+    pub size-few : length (wordsOf s) ≤ 8 → length (wordsOf s) ≡ sizeOf s
+    unfolding isTray
+    size-few h = rw (eq-eqb (getD s (length s - 1) 0) 10 e, le-leb (length (wordsOf s)) 8 h) refl
+
+  pub tray-facts : isTray s ≡ true → (getD s (length s - 1) 0 ≡ 10) × (length (wordsOf s) ≤ 8)
+  unfolding isTray
+  tray-facts e = let (c, n) = both-true (closes s) (leb (length (wordsOf s)) 8) e in (eqb-true (getD s (length s - 1) 0) 10 c, leb-true (length (wordsOf s)) 8 n)
+
+  -- the size says whether there is a tray: no tray is empty
+  some-word : isTray s ≡ true → 0 < length (wordsOf s)
+  some-word e = go s (tray-facts e .0)
+    where
+      go : (s : List ℕ) → getD s (length s - 1) 0 ≡ 10 → 0 < length (wordsOf s)
+      go [] e = absurd (let z : _≡_ {A = ℕ} 0 10 = e in omega arith)
+      go (b ∷ s) e = let i = ap length (index-first (b ∷ s) (index-last (b ∷ s) (omega arith) e)) in omega arith
+
+  pub size-zero : (n : ℕ) → n ≡ sizeOf s → n ≡ 0 → isTray s ≡ false
+  size-zero n e z = go (isTray s) refl e
+    where
+      go : (t : Bool) → isTray s ≡ t → n ≡ cond t (length (wordsOf s)) 0 → isTray s ≡ false
+      go true f e = absurd (omega (arith, some-word f))
+      go false f e = f
+
+  pub size-some : (n : ℕ) → n ≡ sizeOf s → (n ≡ 0 → ⊥) → (isTray s ≡ true) × (n ≡ length (wordsOf s))
+  size-some n e z = go (isTray s) refl e
+    where
+      go : (t : Bool) → isTray s ≡ t → n ≡ cond t (length (wordsOf s)) 0 → (isTray s ≡ true) × (n ≡ length (wordsOf s))
+      go true f e = (f, e)
+      go false f e = absurd (z e)
+
+-- ---- the next word: up to the next line feed
 module _ (s : List ℕ) (at end : ℕ) (f : getD s (length s - 1) 0 ≡ 10) (h : at < length s) (e : end ≡ at + indexOf 10 (slice at (length s) s)) where
   part : slice at (length s) s ≡ drop at s
   unfolding slice
@@ -112,6 +145,14 @@ module _ (s : List ℕ) (at end : ℕ) (f : getD s (length s - 1) 0 ≡ 10) (h :
       let b : at + suc (indexOf 10 (drop at s)) ≡ end + 1 = omega arith in
       index-first (drop at s) found
       ∙ ap₂ (λ (w : List ℕ) (ws : List (List ℕ)). w ∷ ws) (ap (λ (k : ℕ). take k (drop at s)) a) (ap wordsOf (drop-drop (suc (indexOf 10 (drop at s))) at s ∙ ap (λ (k : ℕ). drop k s) b))
+
+-- while words are left the place is inside
+pub words-left : (s : List ℕ) (at : ℕ) → 0 < length (wordsOf (drop at s)) → at < length s
+words-left s at h = go (decLt at (length s))
+  where
+    go : Dec (at < length s) → at < length s
+    go (yes k) = k
+    go (no k) = absurd (omega (arith, count-end s at (omega arith)))
 
 -- ---- n ticks so far, and those of the words from a place on
 module _ (p : Tariff) where
@@ -151,3 +192,12 @@ module _ (p : Tariff) (s : List ℕ) (m : ℕ) where
   pub tray-answered : isTray s ≡ true → answered m (totalOf p (wordsOf s)) ≡ trayOf p s m
   unfolding trayOf
   tray-answered e = rw e refl
+
+  -- a price out of range refuses the first word, and so the tray
+  pub tray-price : isTray s ≡ true → inRange p ≡ false → C.Refused OutOfRange ≡ trayOf p s m
+  unfolding totalOf
+  tray-price e f = sym (ap (answered m) (go (wordsOf s) (some-word s e))) ∙ tray-answered e
+    where
+      go : (ws : List (List ℕ)) → 0 < length ws → totalOf p ws ≡ Refused OutOfRange
+      go [] h = absurd (omega arith)
+      go (w ∷ ws) h = rw (← ticks-price p w f) refl

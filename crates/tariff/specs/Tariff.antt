@@ -1,7 +1,7 @@
 -- Document 02, Ticket 8: what a word costs by a tariff, and whether that fits a memory. Assumes nothing.
 use mathlib.Core.Bool.{Bool, cond, _&&_}
 use mathlib.Core.List.{List, [], _∷_}
-use Prim.Native.Nat.{ℕ, _+_, _/_}
+use Prim.Native.Nat.{ℕ, _+_, _/_, _≤_}
 use lib.Dec.{leb}
 use lib.ListN.{length}
 use Rattle.refusals.specs.Refusals.{outOfRange, notALetter, notATray}
@@ -47,6 +47,11 @@ rounded n = (n + 999) / 1000
 -- the ticks of a word, or the first check that fails
 unfoldable pub ticksOf : Tariff → List ℕ → Ticks
 ticksOf p w = cond (inRange p && leb (length w) topLength) (cond (areLetters w) (Sum (rounded (sumOf p (lettersOf w)))) (Refused NotALetter)) (Refused OutOfRange)
+
+-- no sum of the costs of eight words is larger
+abbrev pub Small : Ticks → Type 0
+Small (Sum n) = n ≤ 524288000
+Small (Refused why) = Unit {0}
 
 -- "whether it fits a step memory": "yes exactly when the cost is not above it"
 abbrev pub answered : ℕ → Ticks → Answer

@@ -29,6 +29,10 @@ closes s = eqb (getD s (length s - 1) 0) 10
 unfoldable pub isTray : List ℕ → Bool
 isTray s = closes s && leb (length (wordsOf s)) 8
 
+-- how many words a tray has; what is no tray has none
+abbrev pub sizeOf : List ℕ → ℕ
+sizeOf s = cond (isTray s) (length (wordsOf s)) 0
+
 -- "then those of Ticket 8 for each word in turn": the sum of the words' ticks, or the first refusal
 abbrev pub plus : Ticks → Ticks → Ticks
 plus (Sum n) (Sum m) = Sum (n + m)

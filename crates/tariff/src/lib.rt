@@ -3,11 +3,12 @@ mod price;
 mod tray;
 
 ghost use mathlib.Core.Path.{_≡_};
-ghost use Rattle.tariff.specs.Tariff.{numberOf, answered, costOf};
+ghost use Rattle.tariff.specs.Tariff.{numberOf, Small, answered, costOf};
 ghost use Rattle.tariff.specs.Tray.{trayOf};
 use price::Ticks;
+use price::in_range;
 use price::word_ticks;
-use tray::is_tray;
+use tray::size;
 use tray::total;
 
 // The prices of the letters, in thousandths of a tick.
@@ -45,10 +46,14 @@ impl Refusal {
 
 // What a number of ticks answers, of a memory.
 fn answered(t: Ticks, memory: u32) -> Answer
+    requires { ⌜ Small t ⌝ }
     ensures { λ r. ⌜ r ≡ answered memory t ⌝ }
 {
     match t {
-        Ticks::Sum(n) => Answer::Costs(n, n <= memory),
+        Ticks::Sum(n) => {
+            let cost = n as u32;
+            Answer::Costs(cost, n <= memory as u64)
+        }
         Ticks::Refused(why) => Answer::Refused(why),
     }
 }
@@ -57,6 +62,9 @@ fn answered(t: Ticks, memory: u32) -> Answer
 pub fn cost(tariff: Tariff, word: &[u8], memory: u32) -> Answer
     ensures { λ r. ⌜ r ≡ costOf tariff (now (word .entry)) memory ⌝ }
 {
+    if !in_range(tariff) {
+        return Answer::Refused(Refusal::OutOfRange);
+    }
     answered(word_ticks(tariff, word), memory)
 }
 
@@ -64,8 +72,13 @@ pub fn cost(tariff: Tariff, word: &[u8], memory: u32) -> Answer
 pub fn tray_cost(tariff: Tariff, words: &[u8], memory: u32) -> Answer
     ensures { λ r. ⌜ r ≡ trayOf tariff (now (words .entry)) memory ⌝ }
 {
-    if !is_tray(words) {
+    let n = size(words);
+    let priced = in_range(tariff);
+    if n == 0 {
         return Answer::Refused(Refusal::NotATray);
     }
-    answered(total(tariff, words), memory)
+    if !priced {
+        return Answer::Refused(Refusal::OutOfRange);
+    }
+    answered(total(tariff, words, n), memory)
 }

@@ -14,12 +14,12 @@ const TOP_LENGTH: usize = 65536;
 
 // What a word costs in whole ticks, or why there is no such cost.
 pub enum Ticks {
-    Sum(u32),
+    Sum(u64),
     Refused(Refusal),
 }
 
 // Whether no price is above the top.
-fn in_range(tariff: Tariff) -> bool
+pub(crate) fn in_range(tariff: Tariff) -> bool
     ensures { λ r. ⌜ r ≡ inRange tariff ⌝ }
 {
     (tariff.h <= TOP_PRICE)
@@ -56,16 +56,16 @@ fn sum(tariff: Tariff, word: &[u8]) -> u64
 
 // The ticks of a word: the sum of its prices, rounded up once.
 pub(crate) fn word_ticks(tariff: Tariff, word: &[u8]) -> Ticks
+    requires { ⌜ inRange tariff ≡ true ⌝ }
     ensures { λ r. ⌜ r ≡ ticksOf tariff (now (word .entry)) ⌝ }
 {
-    if !in_range(tariff) {
+    let short = word.len() <= TOP_LENGTH;
+    let letters = alphabet::are_letters(word);
+    if !short {
         return Ticks::Refused(Refusal::OutOfRange);
     }
-    if TOP_LENGTH < word.len() {
-        return Ticks::Refused(Refusal::OutOfRange);
-    }
-    if !alphabet::are_letters(word) {
+    if !letters {
         return Ticks::Refused(Refusal::NotALetter);
     }
-    Ticks::Sum(((sum(tariff, word) + 999) / 1000) as u32)
+    Ticks::Sum((sum(tariff, word) + 999) / 1000)
 }

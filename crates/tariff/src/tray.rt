@@ -2,7 +2,8 @@
 ghost use mathlib.Core.Path.{_≡_};
 ghost use mathlib.Core.Bool.{true};
 ghost use lib.ListN.{length};
-ghost use Rattle.tariff.specs.Tray.{wordsOf, isTray, totalOf};
+ghost use Rattle.tariff.specs.Tariff.{inRange, Small};
+ghost use Rattle.tariff.specs.Tray.{wordsOf, isTray, sizeOf, totalOf};
 use crate::Tariff;
 use crate::price::Ticks;
 use crate::price::word_ticks;
@@ -24,33 +25,38 @@ fn words_of(s: &[u8]) -> usize
     n
 }
 
-// Whether there are one to eight words, and the last is closed.
-pub(crate) fn is_tray(s: &[u8]) -> bool
-    ensures { λ r. ⌜ r ≡ isTray (now (s .entry)) ⌝ }
+// How many words a tray has: one to eight, the last closed. What is no tray has none.
+pub(crate) fn size(s: &[u8]) -> usize
+    ensures { λ r. ⌜ r ≡ sizeOf (now (s .entry)) ⌝ }
 {
     if s.len() == 0 {
-        return false;
+        return 0;
     }
-    if s[s.len() - 1] == b'\n' {
-        words_of(s) <= TOP_WORDS
-    } else {
-        false
+    if s[s.len() - 1] != b'\n' {
+        return 0;
     }
+    let n = words_of(s);
+    if TOP_WORDS < n {
+        return 0;
+    }
+    n
 }
 
-// The ticks of all words, or the first refusal.
-pub(crate) fn total(tariff: Tariff, s: &[u8]) -> Ticks
-    requires { ⌜ isTray (now s) ≡ true ⌝ }
-    ensures { λ r. ⌜ r ≡ totalOf tariff (wordsOf (now (s .entry))) ⌝ }
+// The ticks of the n words of a tray, or the first refusal.
+pub(crate) fn total(tariff: Tariff, s: &[u8], n: usize) -> Ticks
+    requires { ⌜ (inRange tariff ≡ true) × (isTray (now s) ≡ true) × (n ≡ length (wordsOf (now s))) ⌝ }
+    ensures { λ r. ⌜ (r ≡ totalOf tariff (wordsOf (now (s .entry)))) × Small r ⌝ }
 {
     let mut sum = 0;
     let mut at = 0;
-    while at < s.len() {
+    let mut i = 0;
+    while i < n {
         let end = bytes::scan::find(s, at, s.len(), b'\n');
         match word_ticks(tariff, &s[at..end]) {
-            Ticks::Sum(n) => {
-                sum += n;
+            Ticks::Sum(k) => {
+                sum += k;
                 at = end + 1;
+                i += 1;
             }
             Ticks::Refused(why) => return Ticks::Refused(why),
         }

@@ -19,25 +19,30 @@ returns c =
 good : (c : tie.Else1) → isText (c .before .before .before .before .args .text .now) ≡ true
 good c = sym (c .before .is-text .ensures) ∙ not-false _ (c .if1 .left)
 
-returns-2 : tie.Need-returns-2
-returns-2 c =
-    let e = c .before in
-    let s = e .before .before .before .before in
-    read-full (s .args .text .now) (s .args .word .now) (good e) (c .if2 .taken)
-
 put-word-requires : tie.Need-put-word-requires
 put-word-requires c κs = search needs
 
 same-length : tie.Need-same-length
 same-length c = search needs
 
+returns-2 : tie.Need-returns-2
+returns-2 c =
+    let p = c .before .before .before in
+    let e = p .before .before in
+    let s = e .before .before .before .before in
+    read-full (s .args .text .now) (s .args .word .now) (good e) (sym (p .put-word .ensures .0) ∙ not-true _ (c .if2 .taken)) (p .put-word .ensures .1)
+
+same-length-2 : tie.Need-same-length-2
+same-length-2 c = search needs
+
 returns-3 : tie.Need-returns-3
 returns-3 c =
-    let p = c .before .before in
+    let p = c .before .before .before in
     let e = p .before .before in
-    let s = e .before .before .before .before .before in
-    read-done (s .args .text .now) (s .args .word .now) (good (e .before)) (e .if2 .left) (p .put-word .ensures)
+    let s = e .before .before .before .before in
+    read-done (s .args .text .now) (s .args .word .now) (good e) (sym (p .put-word .ensures .0) ∙ not-false _ (c .if2 .left)) (p .put-word .ensures .1)
 
 pub read-spec : {M : Type 1} → statement M
 read-spec =
-    tie.close (tie.spec is-text-requires returns returns-2 put-word-requires same-length returns-3)
+    tie.close
+    (tie.spec is-text-requires returns put-word-requires same-length returns-2 same-length-2 returns-3)

@@ -1,28 +1,53 @@
-use mathlib.Core.Path.{sym, ap, _∙_}
+use mathlib.Core.Path.{_≡_, sym, ap, _∙_}
+use mathlib.Core.Bool.{true}
 use borrow.Author.Tests.{not-true, not-false}
-use Rattle.tariff.specs.Tariff.{answered}
-use Rattle.tariff.proofs.Words.{tray-refused, tray-answered}
+use lib.ListN.{length}
+use Rattle.tariff.specs.Tariff.{inRange, answered}
+use Rattle.tariff.specs.Tray.{isTray, wordsOf}
+use Rattle.tariff.proofs.Words.{size-zero, size-some, tray-refused, tray-answered, tray-price}
 use borrow.Author.Needs.{needs}
 use Rattle.tariff.proofs.tray_cost.Statement.{statement}
 use Rattle.tariff.proofs.tray_cost.Tie as tie
 
-is-tray-requires : tie.Need-is-tray-requires
-is-tray-requires c κs = search needs
+size-requires : tie.Need-size-requires
+size-requires c κs = search needs
+
+in-range-requires : tie.Need-in-range-requires
+in-range-requires c κs = search needs
 
 returns : tie.Need-returns
-returns c = tray-refused _ _ _ (sym (c .before .is-tray .ensures) ∙ not-true _ (c .if1 .taken))
+returns c = tray-refused _ _ _ (size-zero _ _ (c .before .before .size .ensures) (c .if1 .taken))
 
-total-requires : tie.Need-total-requires
-total-requires c κs = sym (c .before .is-tray .ensures) ∙ not-false _ (c .if1 .left)
+-- past the first test there is a tray, and past the second its prices are in range
+module _ (c : tie.Else1) where
+  filled : (isTray (c .before .before .before .before .args .words .now) ≡ true) × (c .before .before .size .result ≡ length (wordsOf (c .before .before .before .before .args .words .now)))
+  filled = size-some _ _ (c .before .before .size .ensures) (c .if1 .left)
 
-answered-requires : tie.Need-answered-requires
-answered-requires c κs = search needs
+priced : (c : tie.Else2) → inRange (c .before .before .before .before .before .args .tariff) ≡ true
+priced c = sym (c .before .before .in-range .ensures) ∙ not-false _ (c .if2 .left)
 
 returns-2 : tie.Need-returns-2
-returns-2 c =
+returns-2 c = tray-price _ _ _ (filled (c .before) .0) (sym (c .before .before .in-range .ensures) ∙ not-true _ (c .if2 .taken))
+
+total-requires : tie.Need-total-requires
+total-requires c κs = (priced c, filled (c .before) .0, filled (c .before) .1)
+
+answered-requires : tie.Need-answered-requires
+answered-requires c κs = c .total .ensures .1
+
+returns-3 : tie.Need-returns-3
+returns-3 c =
     let e = c .before .before in
-    c .answered .ensures ∙ ap (answered _) (c .before .total .ensures) ∙ tray-answered _ _ _ (sym (e .before .is-tray .ensures) ∙ not-false _ (e .if1 .left))
+    c .answered .ensures ∙ ap (answered _) (c .before .total .ensures .0) ∙ tray-answered _ _ _ (filled (e .before) .0)
 
 pub tray-cost-spec : {M : Type 1} → statement M
 tray-cost-spec =
-    tie.close (tie.spec is-tray-requires returns total-requires answered-requires returns-2)
+    tie.close
+    (tie.spec
+    size-requires
+    in-range-requires
+    returns
+    returns-2
+    total-requires
+    answered-requires
+    returns-3)
