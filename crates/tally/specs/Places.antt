@@ -40,6 +40,74 @@ places-set f x (suc n) s (suc i) =
     ap₂ _∷_ (rw (ne-eqb (s + suc i) s (λ q. omega arith)) refl)
     (places-set f x n (suc s) i ∙ places-same _ _ n (suc s) (λ e a b. ap (λ (m : ℕ). cond (eqb m e) x (f e)) (omega arith)))
 
+-- ---- more at one place, and nothing past the end
+unfoldable pub plusAt : List ℕ → ℕ → ℕ → List ℕ
+plusAt [] e n = []
+plusAt (x ∷ l) zero n = (x + n) ∷ l
+plusAt (x ∷ l) (suc e) n = x ∷ plusAt l e n
+
+pub plus-set : (l : List ℕ) (e n : ℕ) → set l e (getD l e 0 + n) ≡ plusAt l e n
+unfolding plusAt
+plus-set [] e n = refl
+plus-set (x ∷ l) zero n = refl
+plus-set (x ∷ l) (suc e) n = ap (λ (t : List ℕ). x ∷ t) (plus-set l e n)
+
+pub plus-past : (l : List ℕ) (e n : ℕ) → length l ≤ e → plusAt l e n ≡ l
+unfolding plusAt
+plus-past [] e n h = refl
+plus-past (x ∷ l) zero n h = absurd (omega arith)
+plus-past (x ∷ l) (suc e) n h = ap (λ (t : List ℕ). x ∷ t) (plus-past l e n (omega arith))
+
+pub plus-nothing : (l : List ℕ) (e : ℕ) → plusAt l e 0 ≡ l
+unfolding plusAt
+plus-nothing [] e = refl
+plus-nothing (x ∷ l) zero = ap (λ (n : ℕ). n ∷ l) (add-zero x)
+plus-nothing (x ∷ l) (suc e) = ap (λ (t : List ℕ). x ∷ t) (plus-nothing l e)
+
+pub plus-twice : (l : List ℕ) (e m n : ℕ) → plusAt (plusAt l e m) e n ≡ plusAt l e (m + n)
+unfolding plusAt
+plus-twice [] e m n = refl
+plus-twice (x ∷ l) zero m n = ap (λ (t : ℕ). t ∷ l) (omega arith)
+plus-twice (x ∷ l) (suc e) m n = ap (λ (t : List ℕ). x ∷ t) (plus-twice l e m n)
+
+pub plus-swap : (l : List ℕ) (d m e n : ℕ) → plusAt (plusAt l d m) e n ≡ plusAt (plusAt l e n) d m
+unfolding plusAt
+plus-swap [] d m e n = refl
+plus-swap (x ∷ l) zero m zero n = ap (λ (t : ℕ). t ∷ l) (omega arith)
+plus-swap (x ∷ l) zero m (suc e) n = refl
+plus-swap (x ∷ l) (suc d) m zero n = refl
+plus-swap (x ∷ l) (suc d) m (suc e) n = ap (λ (t : List ℕ). x ∷ t) (plus-swap l d m e n)
+
+pub plus-most : (l : List ℕ) (d n e : ℕ) → getD l e 0 ≤ getD (plusAt l d n) e 0
+unfolding plusAt
+plus-most [] d n e = omega arith
+plus-most (x ∷ l) zero n zero = omega arith
+plus-most (x ∷ l) zero n (suc e) = omega arith
+plus-most (x ∷ l) (suc d) n zero = omega arith
+plus-most (x ∷ l) (suc d) n (suc e) = plus-most l d n e
+
+pub plus-here : (l : List ℕ) (e n : ℕ) → e < length l → getD (plusAt l e n) e 0 ≡ getD l e 0 + n
+unfolding plusAt
+plus-here [] e n h = absurd (omega arith)
+plus-here (x ∷ l) zero n h = refl
+plus-here (x ∷ l) (suc e) n h = plus-here l e n (omega arith)
+
+pub plus-length : (l : List ℕ) (e n : ℕ) → length (plusAt l e n) ≡ length l
+unfolding plusAt
+plus-length [] e n = refl
+plus-length (x ∷ l) zero n = refl
+plus-length (x ∷ l) (suc e) n = ap suc (plus-length l e n)
+
+places-plus-one : (f : ℕ → ℕ) (n s i : ℕ) → plusAt (places f n s) i 1 ≡ places (λ e. f e + one (eqb (s + i) e)) n s
+unfolding plusAt places
+places-plus-one f zero s i = refl
+places-plus-one f (suc n) s zero =
+    ap₂ _∷_ (rw (eq-eqb (s + 0) s (omega arith)) refl)
+    (places-same f _ n (suc s) (λ e a b. rw (ne-eqb (s + 0) e (λ q. omega arith)) (sym (add-zero (f e)))))
+places-plus-one f (suc n) s (suc i) =
+    ap₂ _∷_ (rw (ne-eqb (s + suc i) s (λ q. omega arith)) (sym (add-zero (f s))))
+    (places-plus-one f n (suc s) i ∙ places-same _ _ n (suc s) (λ e a b. ap (λ (m : ℕ). f e + one (eqb m e)) (omega arith)))
+
 -- ---- the numbers of points
 pub number-append : (k e : ℕ) (l m : List Point) → number k e (l ++ m) ≡ number k e l + number k e m
 unfolding number
@@ -63,20 +131,12 @@ module _ (k : ℕ) (l : List Point) (v : Point) where
   unfolding number
   number-more e = number-append k e l (v ∷ []) ∙ ap (λ (n : ℕ). number k e l + n) (add-zero (one (eqb (exponentOf k v) e)))
 
-  same-at : (i e : ℕ) (b : Bool) → eqb i e ≡ b → cond b (number k i l + 1) (number k e l) ≡ number k e l + one b
-  same-at i e true q = rw (eqb-true i e q) refl
-  same-at i e false q = omega arith
-
-  -- one point more: the number of its exponent grows by one
-  pub spread-more : set (spread k l) (exponentOf k v) (number k (exponentOf k v) l + 1) ≡ spread k more
+  -- one point more: the number of its exponent grows by one, if that is at most 20
+  pub spread-more : plusAt (spread k l) (exponentOf k v) 1 ≡ spread k more
   spread-more =
       let i = exponentOf k v in
-      places-set (λ e. number k e l) (number k i l + 1) 21 0 i
-      ∙ places-same _ _ 21 0 (λ e a b. ap (λ (m : ℕ). cond (eqb m e) (number k i l + 1) (number k e l)) (omega arith) ∙ same-at i e (eqb i e) refl ∙ sym (number-more e))
-
-  -- a point of a larger exponent than 20 is not counted
-  pub spread-past : 21 ≤ exponentOf k v → spread k l ≡ spread k more
-  spread-past h = places-same _ _ 21 0 (λ e a b. sym (number-more e ∙ rw (ne-eqb (exponentOf k v) e (λ q. omega arith)) (add-zero (number k e l))))
+      places-plus-one (λ e. number k e l) 21 0 i
+      ∙ places-same _ _ 21 0 (λ e a b. ap (λ (m : ℕ). number k e l + one (eqb m e)) (omega arith) ∙ sym (number-more e))
 
 -- ---- points that all have the exponent k
 none-each : replicate 21 0 ≡ each (λ e. 0)

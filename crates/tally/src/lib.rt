@@ -1,9 +1,15 @@
 // How the points that were handed out spread over the exponents: SPEC, "Tally".
 ghost use mathlib.Core.Path.{_≡_};
 ghost use Prim.Native.Nat.{_*_, _≤_};
+ghost use mathlib.Core.Bool.{false};
+ghost use lib.IntN.{_-ℤ_};
 ghost use lib.ListN.{length, take};
+ghost use Rattle.integers.specs.Parity.{even};
+ghost use Rattle.ring.specs.Point.Exponent.{exponentOf};
 ghost use Rattle.points.specs.Slices.{pointsOf};
 ghost use Rattle.tally.specs.Spread.{spread, alone, added, nothing};
+ghost use Rattle.tally.specs.Odd.{odd, halfOf};
+use ring::Point;
 use words::Size;
 
 // A count of two words for each exponent from 0 to 20.
@@ -36,22 +42,75 @@ impl Tally {
     }
 }
 
-// Of the first n points of a slice, how many have each exponent at the scale k.
+// Of the first n points of a slice, how many have each exponent at the scale k. Those that √2 does not divide have k, and are not looked at further.
 pub fn spread_of(points: &[i32], n: usize, k: u8) -> [u64; 21]
     requires { ⌜ 4 * n ≤ length (now points) ⌝ }
     ensures { λ r. ⌜ r ≡ spread k (pointsOf (take (4 * n) (now (points .entry)))) ⌝ }
 {
     let mut counts = [0u64; 21];
+    let mut even: usize = 0;
     let mut i = 0;
     while i < n {
         let v = points::point_at(points, i);
-        let e = v.exponent(k) as usize;
-        if e < 21 {
-            counts[e] += 1;
+        if !is_odd(v) {
+            let e = exponent(v, k) as usize;
+            if e < 21 {
+                counts[e] += 1;
+            }
+            even += 1;
         }
         i += 1;
     }
+    let e = k as usize;
+    if e < 21 {
+        counts[e] += (n - even) as u64;
+    }
     counts
+}
+
+// Whether √2 does not divide a point.
+fn is_odd(v: Point) -> bool
+    ensures { λ r. ⌜ r ≡ odd v ⌝ }
+{
+    if agree(v.a, v.c) {
+        return !agree(v.b, v.d);
+    }
+    true
+}
+
+// Whether 2 divides a − b.
+fn agree(a: i32, b: i32) -> bool
+    ensures { λ r. ⌜ r ≡ even (a -ℤ b) ⌝ }
+{
+    integers::is_even(integers::difference(a, b))
+}
+
+// The exponent of a point that √2 divides: k − 1 where 2 does not, else that of its half at k − 2.
+fn exponent(v: Point, k: u8) -> u32
+    requires { ⌜ odd v ≡ false ⌝ }
+    ensures { λ r. ⌜ r ≡ exponentOf k v ⌝ }
+{
+    if k < 2 {
+        return 0;
+    }
+    if agree(v.a, 0) {
+        if agree(v.b, 0) {
+            return half(v).exponent(k - 2);
+        }
+    }
+    k as u32 - 1
+}
+
+// Half of a point, each number toward zero.
+fn half(v: Point) -> Point
+    ensures { λ r. ⌜ r ≡ halfOf v ⌝ }
+{
+    Point {
+        a: integers::half_difference(v.a, 0),
+        b: integers::half_difference(v.b, 0),
+        c: integers::half_difference(v.c, 0),
+        d: integers::half_difference(v.d, 0),
+    }
 }
 
 // The same for n points that are new at the scale k: all have the exponent k.
