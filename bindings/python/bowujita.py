@@ -327,8 +327,7 @@ class Tray:
         numbers = (i32 * (5 * space))()
         reply = self._left(_library.bowujita_tray_hand_out(self.state, numbers, len(numbers)))
         flat = numbers[: 5 * reply.count]
-        held = lambda mask: tuple(j for j in range(8) if mask >> j & 1)
-        return [TrayPoint(Point(*flat[i : i + 4]), held(flat[i + 4])) for i in range(0, len(flat), 5)], bool(reply.flag)
+        return [TrayPoint(Point(*flat[i : i + 4]), tuple(j for j in range(8) if flat[i + 4] >> j & 1)) for i in range(0, len(flat), 5)], bool(reply.flag)
 
     def points(self, space=1024):
         """The points that are left, one after another; the session moves on by hand-outs of `space` points."""
