@@ -2,8 +2,9 @@
 //! is thin has a frame of its own below, along and across its direction, each to its own scale.
 //!     picture < JOB > SVG
 use bowujita::{pulses, raw::Shape, Point, Session};
-use std::fmt::Write as _;
-use std::io::Read as _;
+use std::fmt::Write;
+use std::io::{Read as _, Write as _};
+use std::process::ExitCode;
 
 type Plane = [f64; 2];
 
@@ -75,7 +76,7 @@ fn ends(points: &[Plane], direction: Plane) -> [f64; 2] {
 fn number(z: f64, step: f64) -> String {
     let text = if z == 0.0 {
         "0".into()
-    } else if step >= 1e-4 {
+    } else if step >= 1e-4 || z.abs() >= 1e-3 {
         format!("{z:.*}", (-step.log10().floor()).max(0.0) as usize)
     } else {
         format!("{z:.1e}").replace(".0e", "e")
@@ -130,17 +131,18 @@ impl Frame {
     }
 
     fn border(&self, svg: &mut String, border: &[Plane], colour: &str) {
-        let mut corners: Vec<String> = border.iter().map(|&p| self.at(p)).map(|[x, y]| format!("{x:.1} {y:.1}")).collect();
-        corners.dedup();
+        if border.is_empty() {
+            return;
+        }
         let places: Vec<Plane> = border.iter().map(|&p| self.at(p)).collect();
         let [x, y] = [[1.0, 0.0], [0.0, 1.0]].map(|d| ends(&places, d));
         if x[1] - x[0] < 8.0 && y[1] - y[0] < 8.0 {
             // so small that only a ring shows where it is
             writeln!(svg, r##"<circle cx="{:.1}" cy="{:.1}" r="11" fill="none" stroke="{colour}" stroke-width="1.5"/>"##, (x[0] + x[1]) / 2.0, (y[0] + y[1]) / 2.0).unwrap();
         }
-        if !corners.is_empty() {
-            writeln!(svg, r##"<path d="M{}Z" fill="{colour}" fill-opacity="0.18" stroke="{colour}" stroke-width="1.5" stroke-linejoin="round"/>"##, corners.join("L")).unwrap();
-        }
+        let mut corners: Vec<String> = places.iter().map(|[x, y]| format!("{x:.1} {y:.1}")).collect();
+        corners.dedup();
+        writeln!(svg, r##"<path d="M{}Z" fill="{colour}" fill-opacity="0.18" stroke="{colour}" stroke-width="1.5" stroke-linejoin="round"/>"##, corners.join("L")).unwrap();
     }
 
     fn points(&self, svg: &mut String, points: &[Plane], shortest: Option<Plane>) {
@@ -162,11 +164,28 @@ fn title(svg: &mut String, x: f64, y: f64, text: &str) {
     writeln!(svg, r##"<text x="{x}" y="{y}" font-size="14">{text}</text>"##).unwrap();
 }
 
-fn main() -> Result<(), String> {
+fn main() -> ExitCode {
+    match run() {
+        Ok(()) => ExitCode::SUCCESS,
+        Err(why) => {
+            eprintln!("picture: {why}");
+            ExitCode::FAILURE
+        }
+    }
+}
+
+fn run() -> Result<(), String> {
+    if std::env::args().len() > 1 {
+        return Err("usage: picture < JOB > SVG".into());
+    }
     let mut job = vec![];
     std::io::stdin().read_to_end(&mut job).map_err(|e| e.to_string())?;
+    std::io::stdout().write_all(picture(&job)?.as_bytes()).map_err(|e| e.to_string())
+}
+
+fn picture(job: &[u8]) -> Result<String, String> {
     let mut session = Session::new();
-    session.read_all(&job).map_err(|(e, at)| format!("{e}, at byte {at}"))?;
+    session.read_all(job).map_err(|(e, at)| format!("{e}, at byte {at}"))?;
     let k = session.scale();
     let listed: Vec<Point> = session.points().map_err(|e| e.to_string())?.take(MOST + 1).collect();
     if listed.len() > MOST {
@@ -191,7 +210,8 @@ fn main() -> Result<(), String> {
         // a slice in its disk, anything else as large as it can be
         let disk = ![2, 3].contains(&shapes[i].kind) || border.is_empty();
         let [x, y] = if disk { [[-1.0, 1.0]; 2] } else { [ends(&border, [1.0, 0.0]), ends(&border, [0.0, 1.0])] };
-        let half = ((x[1] - x[0]).max(y[1] - y[0]) / 2.0).max(1e-9);
+        // around a single point, a square of side 1
+        let half = Some((x[1] - x[0]).max(y[1] - y[0]) / 2.0).filter(|&half| half > 1e-11).unwrap_or(0.5);
         let square = [x, y].map(|[lo, hi]| [(lo + hi) / 2.0 - half, (lo + hi) / 2.0 + half]);
         let left = 48.0 + 400.0 * i as f64;
         let frame = Frame::new([[1.0, 0.0], [0.0, 1.0]], square, left, top, [320.0, 320.0]);
@@ -222,10 +242,8 @@ fn main() -> Result<(), String> {
         frame.points(&mut body, &places(i), pattern.map(|p| self::places(p.u, p.scale)[i]));
         top += 284.0;
     }
-    println!(r##"<svg xmlns="http://www.w3.org/2000/svg" width="800" height="{0}" viewBox="0 0 800 {0}" font-family="sans-serif" font-size="11" stroke="{GREY}"><style>text{{fill:{GREY};stroke:none}}</style>"##, top - 34.0);
-    print!("{body}");
-    println!("</svg>");
-    Ok(())
+    let head = format!(r##"<svg xmlns="http://www.w3.org/2000/svg" width="800" height="{0}" viewBox="0 0 800 {0}" font-family="sans-serif" font-size="11" stroke="{GREY}"><style>text{{fill:{GREY};stroke:none}}</style>"##, top - 34.0);
+    Ok(format!("{head}\n{body}</svg>\n"))
 }
 
 /// A length by its first two digits.
