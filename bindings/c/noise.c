@@ -135,6 +135,7 @@ static void one_tray(void) {
     same_trays(l.session, m.session, "tray_rewind"), same_reply(l.reply, m.reply, "tray_rewind");
     l = bowujita_tray_clear(s);
     same_trays(l.session, BOWUJITA_NO_TRAY, "tray_clear");
+    for (int j = 0; j < 8; j++) if (l.session.b.kind != 0 || l.session.a[j].kind != 0) printf("noise: tray_clear leaves a region\n"), exit(1);
 }
 
 static void one_session(void) {

@@ -215,7 +215,7 @@ fn picture(job: &[u8]) -> Result<String, String> {
         let square = [x, y].map(|[lo, hi]| [(lo + hi) / 2.0 - half, (lo + hi) / 2.0 + half]);
         let left = 48.0 + 400.0 * i as f64;
         let frame = Frame::new([[1.0, 0.0], [0.0, 1.0]], square, left, top, [320.0, 320.0]);
-        title(&mut body, left, top - 10.0, &format!("{name}, and {holds}"));
+        title(&mut body, left, top - 10.0, &if border.is_empty() { format!("{name}, which is empty") } else { format!("{name}, and {holds}") });
         frame.grid(&mut body, [0.0, 0.0]);
         if disk {
             let ([x, y], [edge, _]) = (frame.at([0.0, 0.0]), frame.at([1.0, 0.0]));
