@@ -18,16 +18,16 @@ C_TYPES = {"u8": "uint8_t", "u16": "uint16_t", "u32": "uint32_t", "u64": "uint64
 C_NAMES = {
     "Four": "point", "WideFour": "wide_point", "Eight": "operator", "Shape": "shape", "Count": "count", "Counts": "counts", "State": "session",
     "Reply": "reply", "Left": "left", "Three": "interval", "TwoWords": "wide", "Handed": "handed", "Word": "word", "Inverted": "inverted",
-    "Prices": "tariff", "Ticks": "ticks", "Wrote": "wrote", "Seen": "seen",
+    "Prices": "tariff", "Ticks": "ticks", "Wrote": "wrote", "Seen": "seen", "PlainSheet": "sheet", "TrayState": "tray_session", "TrayLeft": "tray_left",
 }
-RUST_NAMES = {"Four": "Point", "WideFour": "WidePoint", "Eight": "Operator", "Three": "Interval", "TwoWords": "Wide", "Prices": "Tariff"}
+RUST_NAMES = {"Four": "Point", "WideFour": "WidePoint", "Eight": "Operator", "Three": "Interval", "TwoWords": "Wide", "Prices": "Tariff", "PlainSheet": "Sheet"}
 # `operator` is a keyword of C++
 C_FIELDS = {"operator": "op"}
 
 
 def source():
     structs, calls = {}, {}
-    for crate in ("numbers", "bowujita"):
+    for crate in ("numbers", "tray_numbers", "bowujita"):
         for path in sorted((ROOT / "crates" / crate / "src").glob("*.rt")):
             text = re.sub(r"//.*", "", path.read_text())
             for name, body in re.findall(r"#\[repr\(C\)\]\s*pub struct (\w+) \{(.*?)\n\}", text, re.S):

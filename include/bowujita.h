@@ -1,9 +1,9 @@
-/* Bowujita: all grid points of a job, each once, in order; the shortest pattern; its words, texts and costs. docs/SPEC.md says what each call does.
+/* Bowujita: all grid points of a job or a tray, each once, in order; the shortest pattern; its words, texts, costs and sheets. docs/SPEC.md says what each call does.
  *
  * Link with target/staticlib/libbowujita.a (`rt staticlib bowujita`). It needs memcpy and nothing else of a C library, keeps no memory and has no state: a session is
  * a plain value that you own, copy and compare as you like, and two threads may use two sessions at a time.
  *
- * Every value of bowujita_session is some session, so no call is undefined whatever its bytes are; all zeros are the fresh one. What a
+ * Every value of bowujita_session is some session, and every value of bowujita_tray_session some session of trays, so no call is undefined whatever their bytes are; all zeros are the fresh ones. What a
  * caller owes is C's own: a pointer and a length that belong together (a null pointer with length 0 is fine), and no slice that is written to lent twice in one call.
  *
  * Numbers of refusals are those of docs/SPEC.md, "Refusals", 0 where a call is not refused. A refused call changes nothing and writes to no slice. Flags are 0 or 1. */
@@ -15,7 +15,7 @@
 #include <stdint.h>
 
 /* Moves whenever a struct or a call changes. */
-#define BOWUJITA_ABI 1
+#define BOWUJITA_ABI 2
 
 #ifdef __cplusplus
 extern "C" {
@@ -70,15 +70,25 @@ typedef struct {
     bowujita_counts tally;
 } bowujita_session;
 
+/* A session of trays. Where `taken` is 0 there is no tray, and nothing else counts. A tray has the scale k, new points only or all, the first `count` regions of a, eight at most, and region b. */
+typedef struct {
+    uint8_t taken, k, all, ended;
+    size_t count;
+    bowujita_point spot;
+    bowujita_shape b, a[8];
+} bowujita_tray_session;
+
 #ifdef __cplusplus
 #define BOWUJITA_FRESH (bowujita_session{})
+#define BOWUJITA_NO_TRAY (bowujita_tray_session{})
 #else
 #define BOWUJITA_FRESH ((bowujita_session){0})
+#define BOWUJITA_NO_TRAY ((bowujita_tray_session){0})
 #endif
 
 enum { BOWUJITA_REFUSED, BOWUJITA_TAKEN, BOWUJITA_HANDED, BOWUJITA_DONE, BOWUJITA_SAYS, BOWUJITA_LEAST };
 
-/* What a call on a session answers: its kind, of the six above; the number of a refusal; yes, or that the end is reached, in `flag`; bytes or points in
+/* What a call on a session answers: its kind, of the six above; the number of a refusal; yes, or that the end is reached, in `flag`; bytes, points or regions in
  * `count`; a pattern's scale, u and t. What does not belong to an answer is 0. */
 typedef struct {
     uint8_t kind, number, flag, scale;
@@ -91,6 +101,11 @@ typedef struct {
     bowujita_session session;
     bowujita_reply reply;
 } bowujita_left;
+
+typedef struct {
+    bowujita_tray_session session;
+    bowujita_reply reply;
+} bowujita_tray_left;
 
 /* lo <= n z <= hi */
 typedef struct {
@@ -147,6 +162,13 @@ typedef struct {
     bowujita_point u, t;
 } bowujita_seen;
 
+/* All that is written on a pattern sheet. */
+typedef struct {
+    uint8_t k;
+    bowujita_point u, t;
+    uint32_t ticks;
+} bowujita_sheet;
+
 /* ---- calls on a session, by value */
 
 /* BOWUJITA_ABI of the header that the archive was made with. */
@@ -167,6 +189,17 @@ bowujita_reply bowujita_has_image(bowujita_session s, bowujita_point w);
 bowujita_reply bowujita_shortest(bowujita_session s);
 /* How many of the points handed out since the last rewind or clearing have each exponent. */
 bowujita_counts bowujita_tally(bowujita_session s);
+
+/* ---- calls on a session of trays, by value */
+
+/* A take: the scale k, the byte of a selection, one to eight region records back to back and that of region B replace the tray there. Answers how many regions. */
+bowujita_tray_left bowujita_tray_take(bowujita_tray_session s, uint64_t k, uint64_t byte, const uint8_t *a, size_t a_length, const uint8_t *b, size_t b_length);
+/* A hand-out: as many of the next points as there is space for, five numbers each: the point's four, and the sum of 2^j over the regions j that hold it. */
+bowujita_tray_left bowujita_tray_hand_out(bowujita_tray_session s, int32_t *numbers, size_t length);
+/* Back before the first point. */
+bowujita_tray_left bowujita_tray_rewind(bowujita_tray_session s);
+/* Without a tray again. */
+bowujita_tray_left bowujita_tray_clear(bowujita_tray_session s);
 
 /* ---- calls without a session */
 
@@ -200,6 +233,8 @@ bowujita_wrote bowujita_qasm_write(const uint8_t *word, size_t word_length, uint
 bowujita_wrote bowujita_qasm_read(const uint8_t *text, size_t text_length, uint8_t *word, size_t word_length);
 /* One pattern sheet from the front of the bytes, as reader 1, the desk, or 2, the line crew, sees it. */
 bowujita_seen bowujita_sheet_read(uint8_t reader, const uint8_t *bytes, size_t length);
+/* The 38 bytes of a pattern sheet at the front of a slice; one that the desk would be refused is not written. */
+bowujita_wrote bowujita_sheet_write(bowujita_sheet sheet, uint8_t *bytes, size_t length);
 
 /* ---- the calls on a session that they move on: 0, or the number of the refusal */
 
@@ -246,6 +281,31 @@ static inline int bowujita_session_shortest(const bowujita_session *s, uint8_t *
     *u = r.u;
     *t = r.t;
     return r.number;
+}
+
+static inline int bowujita_tray_session_take(bowujita_tray_session *s, uint64_t k, uint64_t byte, const uint8_t *a, size_t a_length, const uint8_t *b, size_t b_length, size_t *count) {
+    bowujita_tray_left l = bowujita_tray_take(*s, k, byte, a, a_length, b, b_length);
+    *s = l.session;
+    *count = l.reply.count;
+    return l.reply.number;
+}
+
+static inline int bowujita_tray_session_hand_out(bowujita_tray_session *s, int32_t *numbers, size_t length, size_t *count, bool *ended) {
+    bowujita_tray_left l = bowujita_tray_hand_out(*s, numbers, length);
+    *s = l.session;
+    *count = l.reply.count;
+    *ended = l.reply.flag != 0;
+    return l.reply.number;
+}
+
+static inline int bowujita_tray_session_rewind(bowujita_tray_session *s) {
+    bowujita_tray_left l = bowujita_tray_rewind(*s);
+    *s = l.session;
+    return l.reply.number;
+}
+
+static inline void bowujita_tray_session_clear(bowujita_tray_session *s) {
+    *s = bowujita_tray_clear(*s).session;
 }
 
 #ifdef __cplusplus

@@ -1,4 +1,4 @@
-/* Random bytes as sessions: no call crashes, and each answers what it answers of the session that the bytes mean, written plainly.
+/* Random bytes as sessions and as sessions of trays: no call crashes, and each answers what it answers of the session that the bytes mean, written plainly.
  *     noise COUNT
  * Stage, tags and flags are random bytes, and so is every field that does not count; the scale and the regions of a whole job are small, so that none takes long. */
 #include <stdio.h>
@@ -67,6 +67,17 @@ static bowujita_session plain(bowujita_session s) {
     return r;
 }
 
+/* the session of trays that the bytes mean */
+static bowujita_tray_session plain_tray(const bowujita_tray_session *s) {
+    bowujita_tray_session r;
+    memset(&r, 0, sizeof r);
+    if (s->taken == 0) return r;
+    r.taken = 1, r.k = s->k, r.all = s->all != 0, r.ended = s->ended != 0, r.count = s->count, r.b = plain_shape(s->b);
+    if (!r.ended) r.spot = s->spot;
+    for (int j = 0; j < 8; j++) r.a[j] = plain_shape(s->a[j]);
+    return r;
+}
+
 static void same(const void *a, const void *b, size_t length, const char *call) {
     if (memcmp(a, b, length) != 0) printf("noise: %s differs\n", call), exit(1);
 }
@@ -88,6 +99,43 @@ static void same_session(bowujita_session a, bowujita_session b, const char *cal
     if (a.stage != b.stage || a.k != b.k || a.all != b.all || a.ended != b.ended) printf("noise: %s leaves another stage\n", call), exit(1);
     same_shape(a.a, b.a, call), same_shape(a.b, b.b, call);
     same(&a.spot, &b.spot, sizeof a.spot, call), same(&a.op, &b.op, sizeof a.op, call), same(&a.tally, &b.tally, sizeof a.tally, call);
+}
+
+static void same_trays(bowujita_tray_session a, bowujita_tray_session b, const char *call) {
+    if (a.taken != b.taken || a.k != b.k || a.all != b.all || a.ended != b.ended || a.count != b.count) printf("noise: %s leaves another tray\n", call), exit(1);
+    same(&a.spot, &b.spot, sizeof a.spot, call), same_shape(a.b, b.b, call);
+    for (int j = 0; j < 8; j++) same_shape(a.a[j], b.a[j], call);
+}
+
+/* random bytes as a session of trays */
+static void one_tray(void) {
+    static const uint8_t regions[38] = {2, 1, 0, 0, 0, 0, 0, 1, 0, 0, 0, 0, 0, 0, 0, 1, 0, 0, 0, 2, 1, 0, 0, 0, 0, 0, 1, 0, 0, 0, 0, 0, 0, 0, 1, 0, 0, 0};
+    bowujita_tray_session s;
+    noise(&s, sizeof s);
+    if (next() % 8 == 0) s.taken = 0;
+    if (next() % 2 != 0) s.ended = 0;
+    if (next() % 8 != 0) s.count = (size_t)within(0, 9);
+    s.k = (uint8_t)within(0, 3);
+    small(&s.b);
+    for (int j = 0; j < 8; j++) small(&s.a[j]);
+    bowujita_tray_session p = plain_tray(&s);
+    int32_t mine[24], theirs[24];
+    noise(mine, sizeof mine), memcpy(theirs, mine, sizeof mine);
+    size_t length = (size_t)within(0, 24);
+    bowujita_tray_left l = bowujita_tray_hand_out(s, length ? mine : NULL, length), m = bowujita_tray_hand_out(p, length ? theirs : NULL, length);
+    same_trays(l.session, m.session, "tray_hand_out"), same_reply(l.reply, m.reply, "tray_hand_out"), same(mine, theirs, sizeof mine, "tray_hand_out");
+    if (l.reply.number != 0) same_trays(l.session, p, "a refused tray_hand_out");
+    size_t first = 19 * (size_t)within(0, 2), second = (size_t)within(18, 20);
+    uint64_t k = next() % 4 == 0 ? next() : (uint64_t)within(0, 21), byte = next() % 4 == 0 ? next() : (uint64_t)within(0, 2);
+    l = bowujita_tray_take(s, k, byte, first ? regions : NULL, first, regions, second), m = bowujita_tray_take(p, k, byte, first ? regions : NULL, first, regions, second);
+    same_trays(l.session, m.session, "tray_take"), same_reply(l.reply, m.reply, "tray_take");
+    if ((l.reply.number == 0) != (k <= 20 && byte <= 1 && first != 0 && second == 19)) printf("noise: tray_take is refused %d\n", l.reply.number), exit(1);
+    if (l.reply.number != 0) same_trays(l.session, p, "a refused tray_take");
+    l = bowujita_tray_rewind(s), m = bowujita_tray_rewind(p);
+    same_trays(l.session, m.session, "tray_rewind"), same_reply(l.reply, m.reply, "tray_rewind");
+    l = bowujita_tray_clear(s);
+    same_trays(l.session, BOWUJITA_NO_TRAY, "tray_clear");
+    for (int j = 0; j < 8; j++) if (l.session.b.kind != 0 || l.session.a[j].kind != 0) printf("noise: tray_clear leaves a region\n"), exit(1);
 }
 
 static void one_session(void) {
@@ -144,6 +192,11 @@ static void others(void) {
     (void)bowujita_qasm_write(bytes, 64, text, 64), (void)bowujita_qasm_read(bytes, 64, text, 64);
     bytes[0] = 7, bytes[1] %= 24;
     (void)bowujita_sheet_read((uint8_t)(1 + next() % 3), bytes, 64);
+    bowujita_sheet sheet;
+    noise(&sheet, sizeof sheet);
+    if (next() % 2 != 0) sheet = (bowujita_sheet){2, {0, -1, -1, 1}, {0, 1, 0, 0}, sheet.ticks};
+    bowujita_wrote w = bowujita_sheet_write(sheet, bytes, (size_t)within(0, 64));
+    if (w.number == 0 && bowujita_sheet_read(1, bytes, w.count).ticks != sheet.ticks) printf("noise: sheet\n"), exit(1);
 }
 
 int main(int argc, char **argv) {
@@ -152,6 +205,7 @@ int main(int argc, char **argv) {
         one_session();
         others();
     }
-    printf("%ld sessions of random bytes: every call answers, as of the session they mean\n", count);
+    for (long i = 0; i < count / 8; i++) one_tray();
+    printf("%ld sessions and %ld sessions of trays of random bytes: every call answers, as of the session they mean\n", count, count / 8);
     return 0;
 }

@@ -1,4 +1,4 @@
-"""All grid points of a job, each once, in order; the shortest pattern; its words, texts and costs. docs/SPEC.md says what each call does.
+"""All grid points of a job or a tray, each once, in order; the shortest pattern; its words, texts, costs and sheets. docs/SPEC.md says what each call does.
 
 The proved library is loaded from BOWUJITA_SO, or from target/staticlib/libbowujita.so of the repository, which bindings/run links.
 
@@ -36,6 +36,8 @@ COUNTS = _struct("COUNTS", counts=COUNT * 21)
 STATE = _struct("STATE", stage=u8, k=u8, all=u8, ended=u8, a=SHAPE, b=SHAPE, spot=FOUR, operator=EIGHT, tally=COUNTS)
 REPLY = _struct("REPLY", kind=u8, number=u8, flag=u8, scale=u8, count=size, u=FOUR, t=FOUR)
 LEFT = _struct("LEFT", session=STATE, reply=REPLY)
+TRAY_STATE = _struct("TRAY_STATE", taken=u8, k=u8, all=u8, ended=u8, count=size, spot=FOUR, b=SHAPE, a=SHAPE * 8)
+TRAY_LEFT = _struct("TRAY_LEFT", session=TRAY_STATE, reply=REPLY)
 THREE = _struct("THREE", n=i32, lo=i32, hi=i32)
 TWO_WORDS = _struct("TWO_WORDS", hi=i64, lo=u64)
 HANDED = _struct("HANDED", number=u8, ended=u8, count=size)
@@ -45,6 +47,7 @@ PRICES = _struct("PRICES", h=u32, s=u32, t=u32, w=u32)
 TICKS = _struct("TICKS", number=u8, fits=u8, ticks=u32)
 WROTE = _struct("WROTE", number=u8, count=size)
 SEEN = _struct("SEEN", number=u8, k=u8, ticks=u32, taken=size, m=u64, u=FOUR, t=FOUR)
+PLAIN_SHEET = _struct("PLAIN_SHEET", k=u8, u=FOUR, t=FOUR, ticks=u32)
 
 _bytes, _numbers = ctypes.POINTER(u8), ctypes.POINTER(i32)
 _read, _write, _fill = (_bytes, size), (_bytes, size), (_numbers, size)
@@ -60,6 +63,10 @@ CALLS = {
     "bowujita_has_image": ((STATE, FOUR), REPLY),
     "bowujita_shortest": ((STATE,), REPLY),
     "bowujita_tally": ((STATE,), COUNTS),
+    "bowujita_tray_take": ((TRAY_STATE, u64, u64, *_read, *_read), TRAY_LEFT),
+    "bowujita_tray_hand_out": ((TRAY_STATE, *_fill), TRAY_LEFT),
+    "bowujita_tray_rewind": ((TRAY_STATE,), TRAY_LEFT),
+    "bowujita_tray_clear": ((TRAY_STATE,), TRAY_LEFT),
     "bowujita_sign": ((i64, i64), i32),
     "bowujita_wide_sign": ((TWO_WORDS, TWO_WORDS), i32),
     "bowujita_exponent": ((FOUR, u8), u32),
@@ -75,8 +82,24 @@ CALLS = {
     "bowujita_qasm_write": ((*_read, *_write), WROTE),
     "bowujita_qasm_read": ((*_read, *_write), WROTE),
     "bowujita_sheet_read": ((u8, *_read), SEEN),
+    "bowujita_sheet_write": ((PLAIN_SHEET, *_write), WROTE),
 }
-ABI = 1
+ABI = 2
+
+
+def _strict(kind):
+    """The type of a number that is passed as it is or not at all: ctypes alone would cut it to its width."""
+
+    def from_param(x):
+        made = kind(x)
+        if made.value != x:
+            raise OverflowError(f"{x} does not fit")
+        return made
+
+    return type(kind.__name__, (), {"from_param": staticmethod(from_param)})
+
+
+_STRICT = {kind: _strict(kind) for kind in (u8, u16, u32, u64, size, i16, i32, i64)}
 
 
 def _load():
@@ -84,7 +107,7 @@ def _load():
     library = ctypes.CDLL(os.environ.get("BOWUJITA_SO", here / "../../target/staticlib/libbowujita.so"))
     for name, (takes, gives) in CALLS.items():
         call = getattr(library, name)
-        call.argtypes, call.restype = takes, gives
+        call.argtypes, call.restype = [_STRICT.get(kind, kind) for kind in takes], gives
     if library.bowujita_abi() != ABI:
         raise ImportError(f"libbowujita.so has ABI {library.bowujita_abi()}, this module {ABI}")
     return library
@@ -138,6 +161,7 @@ def _checked(reply):
 
 Point = collections.namedtuple("Point", "a b c d")
 Pattern = collections.namedtuple("Pattern", "scale u t")
+TrayPoint = collections.namedtuple("TrayPoint", "point regions")
 Operator = collections.namedtuple("Operator", "a b c d ai bi ci di")
 Cost = collections.namedtuple("Cost", "ticks fits")
 Sheet = collections.namedtuple("Sheet", "k u t ticks")
@@ -145,6 +169,20 @@ Sheet = collections.namedtuple("Sheet", "k u t ticks")
 
 def _point(four):
     return Point(four.a, four.b, four.c, four.d)
+
+
+def _plain(kind, numbers):
+    """A struct of numbers, each as it is or not at all.
+
+    >>> exponent((2**32, 0, 0, 1), 3)
+    Traceback (most recent call last):
+        ...
+    OverflowError: (4294967296, 0, 0, 1) does not fit
+    """
+    made = kind(*numbers)
+    if [getattr(made, name) for name, _ in kind._fields_] != list(numbers):
+        raise OverflowError(f"{tuple(numbers)} does not fit")
+    return made
 
 
 def _lent(data):
@@ -240,7 +278,7 @@ class Session:
 
     def has_image(self, w):
         """Whether w is what the remembered operator makes of a listed point."""
-        return bool(_checked(_library.bowujita_has_image(self.state, FOUR(*w))).flag)
+        return bool(_checked(_library.bowujita_has_image(self.state, _plain(FOUR, w))).flag)
 
     def shortest(self):
         """The shortest pattern that the job allows."""
@@ -250,6 +288,61 @@ class Session:
     def tally(self):
         """How many of the points handed out since the last rewind or clearing have each exponent from 0 to 20."""
         return [n.hi << 64 | n.lo for n in _library.bowujita_tally(self.state).counts]
+
+
+class Tray:
+    """One to eight regions A with a scale, a selection and a region B, and the place of the walk over the points of all of them; from keyword arguments, or empty.
+
+    A point comes with the regions that hold it, by their places.
+
+    >>> disk = ellipse(n=1, cx=0, cy=0, p=1, q=0, r=1, s=1)
+    >>> right = slice_of(n=1, zx=1, zy=0, w=0)
+    >>> t = Tray(scale=0, a=[disk, right], b=disk)
+    >>> t.hand_out(3)
+    ([TrayPoint(point=Point(a=-1, b=0, c=0, d=0), regions=(0, 1)), TrayPoint(point=Point(a=0, b=-1, c=0, d=0), regions=(0, 1)), TrayPoint(point=Point(a=0, b=0, c=-1, d=0), regions=(0,))], False)
+    >>> t.rewind()
+    >>> len(list(t.points()))
+    9
+    >>> t.take(0, False, [], disk)
+    Traceback (most recent call last):
+        ...
+    bowujita.Refused: refused 16: no byte of A, a ninth A, or bytes behind B
+    """
+
+    def __init__(self, *, scale=None, all=False, a=(), b=b""):
+        self.state = TRAY_STATE()
+        if scale is not None:
+            self.take(scale, all, a, b)
+
+    def _left(self, left):
+        self.state = left.session
+        return _checked(left.reply)
+
+    def take(self, scale, all, a, b):
+        """A tray of regions' records replaces the one there; how many regions A."""
+        return self._left(_library.bowujita_tray_take(self.state, scale, all, *_lent(b"".join(a)), *_lent(b))).count
+
+    def hand_out(self, space):
+        """The next points, at most `space` of them, and whether the end is reached."""
+        numbers = (i32 * (5 * space))()
+        reply = self._left(_library.bowujita_tray_hand_out(self.state, numbers, len(numbers)))
+        flat = numbers[: 5 * reply.count]
+        return [TrayPoint(Point(*flat[i : i + 4]), tuple(j for j in range(8) if flat[i + 4] >> j & 1)) for i in range(0, len(flat), 5)], bool(reply.flag)
+
+    def points(self, space=1024):
+        """The points that are left, one after another; the session moves on by hand-outs of `space` points."""
+        ended = False
+        while not ended:
+            some, ended = self.hand_out(space)
+            yield from some
+
+    def rewind(self):
+        """Back before the first point."""
+        self._left(_library.bowujita_tray_rewind(self.state))
+
+    def clear(self):
+        """Without a tray again."""
+        self._left(_library.bowujita_tray_clear(self.state))
 
 
 # ---- calls without a session
@@ -296,7 +389,7 @@ def exponent(v, k):
     >>> exponent((0, 0, 0, 1), 3), exponent((0, 0, 0, 2), 3)
     (3, 1)
     """
-    return _library.bowujita_exponent(FOUR(*v), k)
+    return _library.bowujita_exponent(_plain(FOUR, v), k)
 
 
 def pulses(e):
@@ -326,7 +419,7 @@ def line(first, second, space=256):
     >>> list(line((1, 0, 5), (1, -1, 1)))
     [(0, 0), (1, 0), (1, 1), (2, 1), (2, 2)]
     """
-    return _paged(2, lambda after, place, numbers: _library.bowujita_line(THREE(*first), THREE(*second), after, *place, numbers, len(numbers)), space)
+    return _paged(2, lambda after, place, numbers: _library.bowujita_line(_plain(THREE, first), _plain(THREE, second), after, *place, numbers, len(numbers)), space)
 
 
 def entry(k, u, space=256):
@@ -335,7 +428,7 @@ def entry(k, u, space=256):
     >>> sum(1 for t in entry(1, (0, 0, 0, 1)))
     8
     """
-    return map(Point._make, _paged(4, lambda after, place, numbers: _library.bowujita_entry(k, FOUR(*u), after, FOUR(*place), numbers, len(numbers)), space))
+    return map(Point._make, _paged(4, lambda after, place, numbers: _library.bowujita_entry(k, _plain(FOUR, u), after, _plain(FOUR, place), numbers, len(numbers)), space))
 
 
 def words(k, u, t, room=1024):
@@ -345,7 +438,7 @@ def words(k, u, t, room=1024):
     'HTSHTSSHSHWWW'
     """
     first, second = (u8 * room)(), (u8 * room)()
-    word = _checked(_library.bowujita_words(k, FOUR(*u), FOUR(*t), first, room, second, room))
+    word = _checked(_library.bowujita_words(k, _plain(FOUR, u), _plain(FOUR, t), first, room, second, room))
     return bytes((second if word.second else first)[: word.length]).decode("ascii")
 
 
@@ -355,7 +448,7 @@ def operator_test(g):
     >>> operator_test((0, 0, 0, 1, 0, 1, 0, 0)), operator_test((1, 0, 0, 1, 0, 1, 0, 0))
     (0, 6)
     """
-    return _library.bowujita_operator_test(EIGHT(*g))
+    return _library.bowujita_operator_test(_plain(EIGHT, g))
 
 
 def image(g, v):
@@ -364,7 +457,7 @@ def image(g, v):
     >>> image((0, 0, 0, 1, -1, 1, 1, 0), (1, 2, 3, 4))
     Point(a=-1, b=2, c=5, d=8)
     """
-    return _point(_library.bowujita_image(EIGHT(*g), FOUR(*v)))
+    return _point(_library.bowujita_image(_plain(EIGHT, g), _plain(FOUR, v)))
 
 
 def inverse(g):
@@ -373,7 +466,7 @@ def inverse(g):
     >>> inverse((0, 0, 0, 1, 0, 1, 0, 0))
     Operator(a=0, b=0, c=0, d=1, ai=0, bi=1, ci=0, di=0)
     """
-    h = _checked(_library.bowujita_inverse(EIGHT(*g))).operator
+    h = _checked(_library.bowujita_inverse(_plain(EIGHT, g))).operator
     return Operator(*(getattr(h, name) for name in Operator._fields))
 
 
@@ -383,7 +476,7 @@ def cost(tariff, word, memory):
     >>> cost((1500, 400, 7000, 0), "HTS", 10)
     Cost(ticks=9, fits=True)
     """
-    reply = _checked(_library.bowujita_cost(PRICES(*tariff), *_lent(word.encode()), memory))
+    reply = _checked(_library.bowujita_cost(_plain(PRICES, tariff), *_lent(word.encode()), memory))
     return Cost(reply.ticks, bool(reply.fits))
 
 
@@ -394,7 +487,7 @@ def tray_cost(tariff, some, memory):
     Cost(ticks=10, fits=False)
     """
     text = "".join(word + "\n" for word in some)
-    reply = _checked(_library.bowujita_tray_cost(PRICES(*tariff), *_lent(text.encode()), memory))
+    reply = _checked(_library.bowujita_tray_cost(_plain(PRICES, tariff), *_lent(text.encode()), memory))
     return Cost(reply.ticks, bool(reply.fits))
 
 
@@ -417,6 +510,24 @@ def word_of(text):
     """
     word = (u8 * (len(text) // 8))()
     return bytes(word[: _checked(_library.bowujita_qasm_read(*_lent(text.encode()), word, len(word))).count]).decode("ascii")
+
+
+def _sheet(k, u, t, ticks):
+    made = PLAIN_SHEET(k, _plain(FOUR, u), _plain(FOUR, t), ticks)
+    if (made.k, made.ticks) != (k, ticks):
+        raise OverflowError(f"{(k, ticks)} does not fit")
+    return made
+
+
+def write_sheet(k, u, t, ticks):
+    """The bytes of a pattern sheet.
+
+    >>> sheet = write_sheet(2, (0, -1, -1, 1), (0, 1, 0, 0), 31)
+    >>> read_sheet(sheet) == (Sheet(2, (0, -1, -1, 1), (0, 1, 0, 0), 31), 38)
+    True
+    """
+    data = (u8 * 38)()
+    return bytes(data[: _checked(_library.bowujita_sheet_write(_sheet(k, u, t, ticks), data, len(data))).count])
 
 
 def read_sheet(data):

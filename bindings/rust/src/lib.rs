@@ -18,13 +18,15 @@ pub mod raw;
 
 mod error;
 mod session;
+mod tray;
 
 pub use error::Error;
-pub use raw::{Interval, Operator, Tariff, Wide, WidePoint};
+pub use raw::{Interval, Operator, Sheet, Tariff, Wide, WidePoint};
 pub use session::{Points, Session};
+pub use tray::{Tray, TrayPoint, TrayPoints};
 
 /// The number of the structs and calls that this crate is written for; `raw::bowujita_abi` answers that of the archive.
-pub const ABI: u32 = 1;
+pub const ABI: u32 = 2;
 
 /// aω³ + bω² + cω + d.
 #[repr(C)]
@@ -172,15 +174,6 @@ pub fn word<'a>(text: &[u8], word: &'a mut [u8]) -> Result<&'a [u8], Error> {
     Error::check(r.number).map(|()| &word[..r.count])
 }
 
-/// All that is written on a pattern sheet.
-#[derive(Clone, Copy, Debug, PartialEq, Eq)]
-pub struct Sheet {
-    pub k: u8,
-    pub u: Point,
-    pub t: Point,
-    pub ticks: u32,
-}
-
 impl Sheet {
     /// One sheet from the front of the bytes, as the desk sees it, and the bytes taken.
     pub fn read(bytes: &[u8]) -> Result<(Sheet, usize), Error> {
@@ -192,5 +185,22 @@ impl Sheet {
     pub fn read_as_crew(bytes: &[u8]) -> Result<(u64, u32, usize), Error> {
         let r = unsafe { raw::bowujita_sheet_read(2, bytes.as_ptr(), bytes.len()) };
         Error::check(r.number).map(|()| (r.m, r.ticks, r.taken))
+    }
+
+    /// The bytes of a sheet at the front of a slice; one that the desk would be refused is not written.
+    ///
+    /// ```
+    /// use bowujita::{Error, Point, Sheet};
+    /// let (u, t) = (Point { a: 0, b: -1, c: -1, d: 1 }, Point { a: 0, b: 1, c: 0, d: 0 });
+    /// let sheet = Sheet { k: 2, u, t, ticks: 31 };
+    /// let mut bytes = [0; 40];
+    /// let written = sheet.write(&mut bytes).unwrap();
+    /// assert_eq!(Sheet::read(written), Ok((sheet, 38)));
+    /// assert_eq!(Sheet::read_as_crew(written), Ok((2, 31, 38)));
+    /// assert_eq!(Sheet { k: 3, ..sheet }.write(&mut bytes), Err(Error::NotUnitary));
+    /// ```
+    pub fn write(self, bytes: &mut [u8]) -> Result<&[u8], Error> {
+        let r = unsafe { raw::bowujita_sheet_write(self, bytes.as_mut_ptr(), bytes.len()) };
+        Error::check(r.number).map(|()| &bytes[..r.count])
     }
 }

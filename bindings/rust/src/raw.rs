@@ -37,6 +37,12 @@ plain! {
     /// The session that a call leaves, and its answer.
     Left { session: State, reply: Reply }
 
+    /// A session of trays.
+    TrayState { taken: u8, k: u8, all: u8, ended: u8, count: usize, spot: Point, b: Shape, a: [Shape; 8] }
+
+    /// The session of trays that a call leaves, and its answer.
+    TrayLeft { session: TrayState, reply: Reply }
+
     /// lo ≤ n·z ≤ hi.
     Interval { n: i32, lo: i32, hi: i32 }
 
@@ -63,6 +69,9 @@ plain! {
 
     /// The number of a refusal, the bytes taken, and what the reader sees.
     Seen { number: u8, k: u8, ticks: u32, taken: usize, m: u64, u: Point, t: Point }
+
+    /// All that is written on a pattern sheet.
+    Sheet { k: u8, u: Point, t: Point, ticks: u32 }
 }
 
 extern "C" {
@@ -75,6 +84,10 @@ extern "C" {
     pub fn bowujita_has_image(s: State, w: Point) -> Reply;
     pub fn bowujita_shortest(s: State) -> Reply;
     pub fn bowujita_tally(s: State) -> Counts;
+    pub fn bowujita_tray_take(s: TrayState, k: u64, byte: u64, a: *const u8, a_length: usize, b: *const u8, b_length: usize) -> TrayLeft;
+    pub fn bowujita_tray_hand_out(s: TrayState, numbers: *mut i32, length: usize) -> TrayLeft;
+    pub fn bowujita_tray_rewind(s: TrayState) -> TrayLeft;
+    pub fn bowujita_tray_clear(s: TrayState) -> TrayLeft;
     pub fn bowujita_sign(p: i64, q: i64) -> i32;
     pub fn bowujita_wide_sign(p: Wide, q: Wide) -> i32;
     pub fn bowujita_exponent(v: Point, k: u8) -> u32;
@@ -90,4 +103,5 @@ extern "C" {
     pub fn bowujita_qasm_write(word: *const u8, word_length: usize, text: *mut u8, text_length: usize) -> Wrote;
     pub fn bowujita_qasm_read(text: *const u8, text_length: usize, word: *mut u8, word_length: usize) -> Wrote;
     pub fn bowujita_sheet_read(reader: u8, bytes: *const u8, length: usize) -> Seen;
+    pub fn bowujita_sheet_write(sheet: Sheet, bytes: *mut u8, length: usize) -> Wrote;
 }

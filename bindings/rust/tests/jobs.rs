@@ -1,5 +1,5 @@
 //! The library beside the peer, on random jobs and random lists of calls, refused ones among them; and what has to hold of any session.
-use bowujita::{pulses, raw, Error, Point, Session};
+use bowujita::{pulses, raw, Error, Handed, Point, Session, Sheet, Tray, TrayPoint};
 use std::io::Write as _;
 use std::process::{Command, Stdio};
 
@@ -74,31 +74,51 @@ fn job(r: &mut Random) -> Vec<u8> {
     out
 }
 
+fn said(yes: bool) -> &'static str {
+    if yes { " yes" } else { " no" }
+}
+
+/// A hand-out of points of so many numbers, as text; what is behind them is as it was.
+fn handed(width: usize, length: &str, hand_out: impl FnOnce(&mut [i32]) -> Result<Handed, Error>) -> Result<String, Error> {
+    let mut numbers = vec![7; length.parse().unwrap()];
+    let answer = hand_out(&mut numbers);
+    let count = answer.map_or(0, |h| h.count);
+    assert!(numbers[width * count..].iter().all(|&x| x == 7));
+    answer.map(|h| numbers[..width * count].iter().fold(format!(" {count}{}", said(h.ended)), |t, x| t + &format!(" {x}")))
+}
+
 /// The answer to a call by a line of text, as the peer's `session` mode has it.
-fn answer(s: &mut Session, line: &str) -> String {
+fn answer(s: &mut Session, tray: &mut Tray, line: &str) -> String {
     let words: Vec<&str> = line.split(' ').collect();
-    let said = |yes| if yes { " yes" } else { " no" };
     let four = |v: Point| format!(" {} {} {} {}", v.a, v.b, v.c, v.d);
+    let point = |n: &[&str]| {
+        let n: Vec<i32> = n.iter().map(|w| w.parse().unwrap()).collect();
+        Point { a: n[0], b: n[1], c: n[2], d: n[3] }
+    };
     let answer = match words[0] {
         "read" => s.read(&hex(words.get(1).unwrap_or(&""))).map(|n| format!(" {n}")),
-        "hand" => {
-            let mut numbers = vec![7; words[1].parse().unwrap()];
-            s.hand_out(&mut numbers).map(|h| {
-                assert!(numbers[4 * h.count..].iter().all(|&x| x == 7));
-                numbers[..4 * h.count].iter().fold(format!(" {}{}", h.count, said(h.ended)), |t, x| t + &format!(" {x}"))
-            })
-        }
+        "hand" => handed(4, words[1], |numbers| s.hand_out(numbers)),
         "rewind" => s.rewind().map(|()| String::new()),
         "clear" => {
             s.clear();
             Ok(String::new())
         }
         "plain" => s.has_solution().map(|yes| said(yes).into()),
-        "image" => {
-            let n: Vec<i32> = words[1..].iter().map(|w| w.parse().unwrap()).collect();
-            s.has_image(Point { a: n[0], b: n[1], c: n[2], d: n[3] }).map(|yes| said(yes).into())
+        "image" => s.has_image(point(&words[1..])).map(|yes| said(yes).into()),
+        "shortest" => s.shortest().map(|p| format!(" {}{}{}", p.scale, four(p.u), four(p.t))),
+        "tray" => tray.take(words[1].parse().unwrap(), words[2].parse().unwrap(), &hex(words[3].trim_matches('-')), &hex(words[4].trim_matches('-'))).map(|n| format!(" {n}")),
+        "tray-hand" => handed(5, words[1], |numbers| tray.hand_out(numbers)),
+        "tray-rewind" => tray.rewind().map(|()| String::new()),
+        "tray-clear" => {
+            tray.clear();
+            Ok(String::new())
         }
-        _ => s.shortest().map(|p| format!(" {}{}{}", p.scale, four(p.u), four(p.t))),
+        "put-sheet" => {
+            let mut bytes = vec![7; words[1].parse().unwrap()];
+            let sheet = Sheet { k: words[2].parse().unwrap(), u: point(&words[3..7]), t: point(&words[7..11]), ticks: words[11].parse().unwrap() };
+            sheet.write(&mut bytes).map(|b| format!(" {}", digits(b)))
+        }
+        _ => Sheet::read(&hex(words[2])).map(|(x, n)| format!(" {n} {}{}{} {}", x.k, four(x.u), four(x.t), x.ticks)),
     };
     match answer {
         Ok(text) => format!("ok{text}"),
@@ -140,6 +160,47 @@ fn calls(r: &mut Random, lines: &mut Vec<String>) {
     lines.push("clear".into());
 }
 
+/// A tray taken or refused, and calls on it and on sheets.
+fn tray_calls(r: &mut Random, lines: &mut Vec<String>) {
+    let mut a = Vec::new();
+    for _ in 0..[1, 2, 3, 8, r.within(0, 9)][r.within(0, 4) as usize] {
+        region(r, &mut a);
+    }
+    let mut b = Vec::new();
+    region(r, &mut b);
+    let (mut k, mut byte) = (r.within(0, 6), r.within(0, 1));
+    match r.within(0, 29) {
+        0 => a.truncate(r.within(0, a.len() as i64) as usize),
+        1 => b.truncate(r.within(0, b.len() as i64) as usize),
+        2 => b.push(0),
+        3 => a.extend([1, 3]),
+        4 => k = [21, 255, 256, i64::MAX][r.within(0, 3) as usize],
+        5 => byte = [2, 256, 1 << 40][r.within(0, 2) as usize],
+        _ => {}
+    }
+    let part = |bytes: &[u8]| if bytes.is_empty() { "-".into() } else { digits(bytes) };
+    lines.push(format!("tray {k} {byte} {} {}", part(&a), part(&b)));
+    for _ in 0..r.within(2, 6) {
+        lines.push(match r.within(0, 11) {
+            0 => "tray-rewind".into(),
+            1 => "tray-clear".into(),
+            2 => sheet(r),
+            3 => format!("sheet 1 0702{}", "00000000ffffffffffffffff01000000000000000100000000000000000000001f000000".repeat(r.within(0, 1) as usize)),
+            _ => format!("tray-hand {}", [0, 4, 5, 12, 41, 4096][r.within(0, 5) as usize]),
+        });
+    }
+}
+
+/// A sheet to be written: one that makes a unitary matrix, or numbers near one.
+fn sheet(r: &mut Random) -> String {
+    let mut n = [0, -1, -1, 1, 0, 1, 0, 0];
+    if r.within(0, 2) == 0 {
+        n[r.within(0, 7) as usize] += r.within(-1, 1) as i32;
+    }
+    let numbers: String = n.iter().map(|x| format!("{x} ")).collect();
+    format!("put-sheet {} {} {numbers}{}", [0, 37, 38, 64][r.within(0, 3) as usize], [2, 2, 2, 21, 255][r.within(0, 4) as usize], r.next() as u32)
+}
+
 fn call(r: &mut Random, lines: &mut Vec<String>) {
     lines.push(match r.within(0, 8) {
         0 => "rewind".into(),
@@ -169,18 +230,20 @@ fn as_the_peer() {
     let mut lines = Vec::new();
     for _ in 0..2000 {
         calls(&mut r, &mut lines);
+        tray_calls(&mut r, &mut lines);
     }
     let theirs = peer(&lines);
     assert_eq!(theirs.len(), lines.len());
-    let mut s = Session::new();
-    let mut refused = 0;
+    let (mut s, mut t) = (Session::new(), Tray::new());
+    let (mut refused, mut taken) = (0, 0);
     for (i, line) in lines.iter().enumerate() {
-        let mine = answer(&mut s, line);
+        let mine = answer(&mut s, &mut t, line);
         assert_eq!(mine, theirs[i], "call {i}: {line}");
         refused += mine.starts_with("refused") as usize;
+        taken += (line.starts_with("tray ") && mine.starts_with("ok")) as usize;
     }
-    eprintln!("2,000 jobs, {} calls, {refused} refused", lines.len());
-    assert!(refused > 500 && refused < lines.len() / 2);
+    eprintln!("2,000 jobs and 2,000 trays, {taken} taken, {} calls, {refused} refused", lines.len());
+    assert!(taken > 1000 && refused > 500 && refused < lines.len() / 2);
 }
 
 /// The tally is that of the points.
@@ -207,6 +270,32 @@ fn tallies() {
         s.rewind().unwrap();
         assert_eq!(s.tally(), [0; 21]);
         some += points.len();
+    }
+    assert!(some > 1000);
+}
+
+/// The points of a tray with bit j are those of region j's own job.
+#[test]
+fn trays_of_jobs() {
+    let mut r = Random(5);
+    let mut some = 0;
+    for _ in 0..60 {
+        let (k, all) = (r.within(0, 5) as u8, r.within(0, 1) as u8);
+        let regions: Vec<Vec<u8>> = (0..=r.within(1, 8)).map(|_| { let mut a = Vec::new(); region(&mut r, &mut a); a }).collect();
+        let (b, a) = regions.split_last().unwrap();
+        let mut t = Tray::new();
+        if t.take(k.into(), all.into(), &a.concat(), b).is_err() {
+            continue;
+        }
+        let points: Vec<TrayPoint> = t.points().unwrap().collect();
+        for (j, own) in a.iter().enumerate() {
+            let mut s = Session::new();
+            s.read_all(&[&[1, k, 6, all][..], own, b].concat()).unwrap();
+            let mine: Vec<Point> = points.iter().filter(|p| p.is_in(j as u32)).map(|p| p.point).collect();
+            assert_eq!(mine, s.points().unwrap().collect::<Vec<_>>());
+            some += mine.len();
+        }
+        assert!(points.iter().all(|p| p.regions != 0));
     }
     assert!(some > 1000);
 }

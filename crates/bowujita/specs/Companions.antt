@@ -16,12 +16,16 @@ use Rattle.qasm.specs.Calls as Qasm
 use Rattle.sheet.specs.declared.Sheet.{Sheet}
 use Rattle.sheet.specs.declared.Reading.{Reading}
 use Rattle.sheet.specs.declared.Reading.the-variants as R
+use Rattle.sheet.specs.declared.Writing.{Writing}
+use Rattle.sheet.specs.declared.Writing.the-variants as W
 use Rattle.sheet.specs.Sheet as Sheets
-use Rattle.numbers.specs.Numbers.{bit, fourOf}
+use Rattle.sheet.specs.Write.{writingOf, sliceAfter}
+use Rattle.numbers.specs.Numbers.{bit, pointOf, fourOf}
 use Rattle.bowujita.specs.declared.companions.Prices.{Prices}
 use Rattle.bowujita.specs.declared.companions.Ticks.{Ticks}
 use Rattle.bowujita.specs.declared.companions.Wrote.{Wrote}
 use Rattle.bowujita.specs.declared.companions.Seen.{Seen}
+use Rattle.bowujita.specs.declared.companions.PlainSheet.{PlainSheet}
 
 abbrev pub tariffOf : Prices → Tariff
 tariffOf p = record { h = p .h; s = p .s; t = p .t; w = p .w }
@@ -60,3 +64,15 @@ abbrev pub seenOf : Reading → Seen
 seenOf (R.Desk x n) = seen 0 n 0 (x .k) (x .u) (x .t) (x .ticks)
 seenOf (R.Crew m ticks n) = seen 0 n m 0 origin origin ticks
 seenOf (R.Refused f) = seen (Sheets.numberOf f) 0 0 0 origin origin 0
+
+abbrev pub sheetOf : PlainSheet → Sheet
+sheetOf s = record { k = s .k; u = pointOf (s .u); t = pointOf (s .t); ticks = s .ticks }
+
+abbrev pub putOf : Writing → Wrote
+putOf (W.Wrote n) = wrote 0 n
+putOf (W.Refused f) = wrote (Sheets.numberOf f) 0
+
+-- a sheet's bytes
+pub record Puts (s : PlainSheet) (old new : List ℕ) (r : Wrote) : Type 0 where
+  pub answer : r ≡ putOf (writingOf (sheetOf s) (length old))
+  pub slice : new ≡ sliceAfter (sheetOf s) old

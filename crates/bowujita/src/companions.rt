@@ -3,10 +3,12 @@ ghost use mathlib.Core.Path.{_≡_};
 ghost use Rattle.tariff.specs.Tariff.{costOf};
 ghost use Rattle.tariff.specs.Tray.{trayOf};
 ghost use Rattle.sheet.specs.Sheet.{readingOf};
-ghost use Rattle.bowujita.specs.Companions.{tariffOf, costs, ticksOf, wrote, wroteOf, Writes, Reads, seen, seenOf};
+ghost use Rattle.bowujita.specs.Companions.{tariffOf, costs, ticksOf, wrote, wroteOf, Writes, Reads, seen, seenOf, sheetOf, putOf, Puts};
 use numbers::Four;
 use ring::Point;
 use sheet::Reading;
+use sheet::Sheet;
+use sheet::Writing;
 use tariff::Tariff;
 
 // The prices of the letters, in thousandths of a tick.
@@ -43,6 +45,15 @@ pub struct Seen {
     pub m: u64,
     pub u: Four,
     pub t: Four,
+}
+
+// All that is written on a pattern sheet.
+#[repr(C)]
+pub struct PlainSheet {
+    pub k: u8,
+    pub u: Four,
+    pub t: Four,
+    pub ticks: u32,
 }
 
 fn tariff_of(p: Prices) -> Tariff
@@ -162,4 +173,34 @@ pub extern "C" fn bowujita_sheet_read(reader: u8, bytes: &[u8]) -> Seen
     ensures { λ r. ⌜ r ≡ seenOf (readingOf reader (now (bytes .entry))) ⌝ }
 {
     seen_of(sheet::read(reader, bytes))
+}
+
+fn sheet_of(s: PlainSheet) -> Sheet
+    ensures { λ r. ⌜ r ≡ sheetOf s ⌝ }
+{
+    let u = numbers::point_of(s.u);
+    let t = numbers::point_of(s.t);
+    Sheet {
+        k: s.k,
+        u: u,
+        t: t,
+        ticks: s.ticks,
+    }
+}
+
+fn put_of(w: Writing) -> Wrote
+    ensures { λ r. ⌜ r ≡ putOf w ⌝ }
+{
+    match w {
+        Writing::Wrote(n) => written(0, n),
+        Writing::Refused(f) => written(f.number(), 0),
+    }
+}
+
+// The bytes of a pattern sheet at the front of a slice; one that the desk would be refused is not written.
+#[no_mangle]
+pub extern "C" fn bowujita_sheet_write(sheet: PlainSheet, bytes: &mut [u8]) -> Wrote
+    ensures { λ r. ⌜ Puts sheet (now (bytes .entry)) (now (bytes .exit)) r ⌝ }
+{
+    put_of(sheet::write(sheet_of(sheet), bytes))
 }

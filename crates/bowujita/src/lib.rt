@@ -7,6 +7,7 @@ ghost use Rattle.bowujita.specs.Calls.{LeftOf, Leaves, Fills, Asks};
 mod alone;
 mod companions;
 mod operators;
+mod trays;
 
 use numbers::Counts;
 use numbers::Four;
@@ -24,9 +25,9 @@ pub struct Left {
 // The number of this table of calls and structs: BOWUJITA_ABI of the header.
 #[no_mangle]
 pub extern "C" fn bowujita_abi() -> u32
-    ensures { λ r. ⌜ r ≡ 1 ⌝ }
+    ensures { λ r. ⌜ r ≡ 2 ⌝ }
 {
-    1
+    2
 }
 
 fn leaving(o: Outcome) -> Left
