@@ -1,9 +1,9 @@
--- `print` is safe. Assumes nothing.
+-- `print` meets its contract. Assumes nothing.
 use mathlib.Core.Path.{sym}
 use lib.Seq.{length-take-le}
 use borrow.Author.Needs.{needs}
-use Rattle.pattern.proofs.print.Statement.{statement}
-use Rattle.pattern.proofs.print.Tie as tie
+use Rattle.filter.proofs.print.Statement.{statement}
+use Rattle.filter.proofs.print.Tie as tie
 
 slice-aggregate-print : tie.Need-slice-aggregate-print
 slice-aggregate-print c = sym (length-take-le _ _ (search needs))
@@ -14,8 +14,5 @@ print-requires c κs = search needs
 returns : tie.Need-returns
 returns c = search needs
 
-returns-2 : tie.Need-returns-2
-returns-2 c = search needs
-
 pub print-spec : {M : Type 1} → statement M
-print-spec = tie.close (tie.spec slice-aggregate-print print-requires returns returns-2)
+print-spec = tie.close (tie.spec slice-aggregate-print print-requires returns)

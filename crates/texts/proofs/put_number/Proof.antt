@@ -4,10 +4,10 @@ use lib.ListN.{length}
 use Rattle.text.proofs.Lengths.{unsigned-length}
 use mathlib.Core.List.{[], _∷_}
 use Rattle.text.specs.Decimal.{decimal}
-use Rattle.pattern_text.specs.Puts.{one, join, weaken}
+use Rattle.texts.specs.Puts.{one, join, weaken}
 use borrow.Author.Needs.{needs}
-use Rattle.pattern_text.proofs.put_number.Statement.{statement}
-use Rattle.pattern_text.proofs.put_number.Tie as tie
+use Rattle.texts.proofs.put_number.Statement.{statement}
+use Rattle.texts.proofs.put_number.Tie as tie
 
 put-bytes-requires : tie.Need-put-bytes-requires
 put-bytes-requires c κs = search needs

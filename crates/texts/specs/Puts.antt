@@ -4,7 +4,7 @@ use mathlib.Core.Path.{_≡_, refl, sym, ap, subst, _∙_}
 use mathlib.Core.List.{List, [], _∷_, _++_, append-nil, append-assoc}
 use native.Mathlib.Omega.{arith}
 use lib.ListN.{length, take, length-append}
-use Rattle.text.specs.Append.{Appended, appended, append-more}
+use Rattle.text.specs.Append.{Appended, appended, append-more, appended-within}
 use Rattle.text.specs.Written.{written, after}
 
 -- a slice and a place in it
@@ -71,7 +71,13 @@ fit (y ∷ l) xs at h =
     let s = a .same in
     append-more xs at y (joined l) (written xs at y) (puts (put (xs, at) y) l .0) (after xs at y) (puts (put (xs, at) y) l .1) a (fit l (written xs at y) (after xs at y) (omega arith))
 
-pub puts-joined : (xs : List ℕ) (l : List (List ℕ)) (out : List ℕ) (r n : ℕ) → n ≤ length xs → Puts (xs, 0) l (out, r) n → take r out ≡ joined l
-puts-joined xs l out r n h p =
+pub puts-appended : (xs : List ℕ) (l : List (List ℕ)) (out : List ℕ) (r n : ℕ) → n ≤ length xs → Puts (xs, 0) l (out, r) n → Appended xs 0 (joined l) out r
+puts-appended xs l out r n h p =
     let k = p .size in
-    subst (λ (t : Slate). Appended xs 0 (joined l) (t .0) (t .1)) (sym (p .is)) (fit l xs 0 (omega arith)) .text
+    subst (λ (t : Slate). Appended xs 0 (joined l) (t .0) (t .1)) (sym (p .is)) (fit l xs 0 (omega arith))
+
+pub puts-joined : (xs : List ℕ) (l : List (List ℕ)) (out : List ℕ) (r n : ℕ) → n ≤ length xs → Puts (xs, 0) l (out, r) n → take r out ≡ joined l
+puts-joined xs l out r n h p = puts-appended xs l out r n h p .text
+
+pub puts-within : (xs : List ℕ) (l : List (List ℕ)) (out : List ℕ) (r n : ℕ) → n ≤ length xs → Puts (xs, 0) l (out, r) n → r ≤ length out
+puts-within xs l out r n h p = appended-within xs (joined l) out r (puts-appended xs l out r n h p)
