@@ -10,9 +10,9 @@ use Rattle.tariff.specs.declared.Tariff.{Tariff}
 use Rattle.tariff.specs.declared.Answer as Cost
 use Rattle.tariff.specs.declared.Answer.the-variants as C
 use Rattle.tariff.specs.Tariff as Tariffs
-use Rattle.qasm.specs.declared.Answer as Text
-use Rattle.qasm.specs.declared.Answer.the-variants as T
-use Rattle.qasm.specs.Calls as Qasm
+use Rattle.qasm_lines.specs.declared.Answer as Text
+use Rattle.qasm_lines.specs.declared.Answer.the-variants as T
+use Rattle.qasm_lines.specs.Calls as Qasm
 use Rattle.sheet.specs.declared.Sheet.{Sheet}
 use Rattle.sheet.specs.declared.Reading.{Reading}
 use Rattle.sheet.specs.declared.Reading.the-variants as R

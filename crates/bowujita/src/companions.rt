@@ -111,12 +111,12 @@ fn written(number: u8, count: usize) -> Wrote
     }
 }
 
-fn wrote_of(a: qasm::Answer) -> Wrote
+fn wrote_of(a: qasm_lines::Answer) -> Wrote
     ensures { λ r. ⌜ r ≡ wroteOf a ⌝ }
 {
     match a {
-        qasm::Answer::Wrote(n) => written(0, n),
-        qasm::Answer::Refused(f) => written(f.number(), 0),
+        qasm_lines::Answer::Wrote(n) => written(0, n),
+        qasm_lines::Answer::Refused(f) => written(f.number(), 0),
     }
 }
 
@@ -125,7 +125,7 @@ fn wrote_of(a: qasm::Answer) -> Wrote
 pub extern "C" fn bowujita_qasm_write(word: &[u8], text: &mut [u8]) -> Wrote
     ensures { λ r. ⌜ Writes (now (word .entry)) (now (text .entry)) (now (text .exit)) r ⌝ }
 {
-    wrote_of(qasm::write(word, text))
+    wrote_of(qasm_lines::write(word, text))
 }
 
 // The word of lines of OpenQASM.
@@ -133,7 +133,7 @@ pub extern "C" fn bowujita_qasm_write(word: &[u8], text: &mut [u8]) -> Wrote
 pub extern "C" fn bowujita_qasm_read(text: &[u8], word: &mut [u8]) -> Wrote
     ensures { λ r. ⌜ Reads (now (text .entry)) (now (word .entry)) (now (word .exit)) r ⌝ }
 {
-    wrote_of(qasm::read(text, word))
+    wrote_of(qasm_lines::read(text, word))
 }
 
 fn sheet_seen(number: u8, taken: usize, m: u64, k: u8, u: Point, t: Point, ticks: u32) -> Seen

@@ -1,7 +1,7 @@
 // `qasm ROOM` and the bytes of a word, `unqasm ROOM` and the bytes of a text; ROOM is the length of the slice lent.
 use crate::byte_buffer;
 use hex::Hex;
-use qasm::Answer;
+use qasm_lines::Answer;
 use wording::Slice;
 
 // The line that answers `qasm`, and its length.
@@ -52,7 +52,7 @@ fn text_of(out: &mut [u8], bytes: &[u8], n: usize, text: &mut [u8], room: usize)
     if text.len() < room {
         return replies::put_bad(out);
     }
-    let a = qasm::write(&bytes[..n], &mut text[..room]);
+    let a = qasm_lines::write(&bytes[..n], &mut text[..room]);
     match a {
         Answer::Wrote(k) => put_hexed(out, text, k),
         Answer::Refused(f) => replies::put_refused(out, f.number()),
@@ -74,7 +74,7 @@ fn word_of(out: &mut [u8], bytes: &[u8], n: usize, word: &mut [u8], room: usize)
     if word.len() < room {
         return replies::put_bad(out);
     }
-    let a = qasm::read(&bytes[..n], &mut word[..room]);
+    let a = qasm_lines::read(&bytes[..n], &mut word[..room]);
     match a {
         Answer::Wrote(k) => put_lettered(out, word, k),
         Answer::Refused(f) => replies::put_refused(out, f.number()),

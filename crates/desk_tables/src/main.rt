@@ -1,4 +1,4 @@
-// Compares tables of another implementation (data/, one row a line) with the calls of `tariff`, `qasm` and `sheet`, and prints how many rows differ.
+// Compares tables of another implementation (data/, one row a line) with the calls of `tariff`, `qasm_lines` and `sheet`, and prints how many rows differ.
 mod cells;
 mod quotes;
 mod runs;

@@ -1,6 +1,6 @@
 // Rows of texts: a word, or a text, in hexadecimal | how many bytes are lent | `refused R`, or the text in hexadecimal, or the word; `-` for none.
 use crate::cells;
-use qasm::Answer;
+use qasm_lines::Answer;
 
 pub fn right(x: &[u8], y: &[u8], z: &[u8], reads: bool) -> bool {
     let n = wording::numbers_from(y, 0);
@@ -23,9 +23,9 @@ fn is_right(z: &[u8], given: &[u8], out: &mut [u8], room: usize, reads: bool) ->
 
 fn asked(given: &[u8], lent: &mut [u8], reads: bool) -> Answer {
     if reads {
-        return qasm::read(given, lent);
+        return qasm_lines::read(given, lent);
     }
-    qasm::write(given, lent)
+    qasm_lines::write(given, lent)
 }
 
 fn is_answer(z: &[u8], a: Answer, out: &[u8], reads: bool) -> bool {

@@ -1,31 +1,37 @@
-// The pattern program: a job on standard input, its shortest pattern on standard output.
+// The pattern program: a job on standard input, its shortest pattern on standard output. SPEC, "Pattern program".
 ghost use mathlib.Core.Path.{_≡_};
 ghost use lib.ListN.{length};
-use libc::STDIN_FILENO;
+ghost use Rattle.transfer.specs.Sending.{Sent};
+ghost use Rattle.filter.specs.Answered.{Answered};
+ghost use Rattle.pattern_text.specs.Pattern.{outputOf};
 
 fn main() {
-    let mut input = printing::input_buffer();
-    let got = streams::read(STDIN_FILENO, b"standard input", &mut input);
-    let n = got.at;
-    if !got.failed {
-        answer(&input[..n]);
-    }
+    let mut input = filter::input_buffer();
+    answer(&mut input);
 }
 
-fn answer(input: &[u8]) {
-    let mut out = output_buffer();
-    let k = pattern_text::put(&mut out, input);
-    print(&out, k);
-}
-
-fn print(out: &[u8], n: usize) {
-    if n <= out.len() {
-        streams::print(&out[..n]);
-    }
-}
-
-fn output_buffer() -> [u8; 512]
-    ensures { λ r. ⌜ 512 ≡ length r ⌝ }
+// Whether the input came without a failure and all of its output was taken. After a read that failed nothing is printed.
+fn answer(input: &mut [u8]) -> bool
+    ensures { λ r. ⌜ Answered outputOf (now (input .exit)) r ⌝ }
 {
-    [0; 512]
+    let got = filter::read(input);
+    let n = got.at;
+    if got.failed {
+        return false;
+    }
+    say(&input[..n])
+}
+
+fn say(bytes: &[u8]) -> bool
+    ensures { λ r. ⌜ Sent (outputOf (now (bytes .entry))) r ⌝ }
+{
+    let mut out = output_buffer();
+    let n = pattern_text::put(&mut out, bytes);
+    filter::print(&out, n)
+}
+
+fn output_buffer() -> [u8; 363]
+    ensures { λ r. ⌜ 363 ≡ length r ⌝ }
+{
+    [0; 363]
 }

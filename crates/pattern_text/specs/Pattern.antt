@@ -7,7 +7,7 @@ use lib.ListN.{length, take}
 use lib.IntN.{ℤ}
 use Rattle.ring.specs.declared.Point.{Point}
 use Rattle.ring.specs.Point.Exponent.{exponentOf, pulseCount}
-use Rattle.text.specs.Decimal.{decimal, signedDecimal}
+use Rattle.text.specs.Decimal.{signedDecimal}
 use Rattle.list_lines.specs.Lines.{refusalLine, tooLongLine}
 use Rattle.calls.specs.Session.{taken, handed, done, says, best, shortest, step}
 use Rattle.calls.specs.Session as Model
@@ -17,14 +17,11 @@ use Rattle.stages.specs.World.{world}
 use Rattle.stages.specs.Session.{meaning, answerOf, Steps}
 use Rattle.input.specs.declared.Input.{Input}
 use Rattle.input.specs.Load.{Loaded, ready, refused, tooLong, loadedOf, loadOf}
-use Rattle.pattern_text.specs.Puts.{Puts, joined, puts-joined}
+use Rattle.texts.specs.Puts.{Puts, joined, puts-joined}
+use Rattle.texts.specs.Texts.{numberTexts, shown}
 use Rattle.gates.specs.Written.{bytes}
 use Rattle.gate_words.specs.Words as W
 use Rattle.gate_words.specs.Words.{wordU, wordTUT, isSecond, named}
-
--- a word and a number
-abbrev pub numberTexts : List ℕ → ℕ → List (List ℕ)
-numberTexts name n = name ∷ (32 ∷ []) ∷ decimal n ∷ (10 ∷ []) ∷ []
 
 -- a word and four numbers
 abbrev pub coordinateTexts : ℤ → List (List ℕ)
@@ -40,7 +37,7 @@ nameText second = cond second (111 ∷ 102 ∷ 32 ∷ 84 ∷ 85 ∷ 84 ∷ 10 �
 abbrev pub wordTexts : ℕ → Point → Point → List (List ℕ)
 wordTexts k u t =
     nameText (isSecond (W.answerOf k u t 128 128))
-    ∷ (119 ∷ 111 ∷ 114 ∷ 100 ∷ 32 ∷ []) ∷ bytes (named (wordU k u t) (wordTUT k u t) (W.answerOf k u t 128 128)) ∷ (10 ∷ []) ∷ []
+    ∷ (119 ∷ 111 ∷ 114 ∷ 100 ∷ 32 ∷ []) ∷ shown (bytes (named (wordU k u t) (wordTUT k u t) (W.answerOf k u t 128 128))) ∷ (10 ∷ []) ∷ []
 
 abbrev pub patternTexts : ℕ → Point → Point → List (List ℕ)
 patternTexts k u t =

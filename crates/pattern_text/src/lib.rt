@@ -5,8 +5,8 @@ ghost use mathlib.Core.List.{[], _∷_};
 ghost use lib.ListN.{length};
 ghost use Rattle.stages.specs.Session.{meaning};
 ghost use Rattle.input.specs.Load.{loadOf};
-ghost use Rattle.pattern_text.specs.Puts.{Puts};
-ghost use Rattle.pattern_text.specs.Pattern.{numberTexts, coordinateTexts, pointTexts, nameText, wordTexts, patternTexts, shortestTexts, textsFor};
+ghost use Rattle.texts.specs.Puts.{Puts};
+ghost use Rattle.pattern_text.specs.Pattern.{coordinateTexts, pointTexts, nameText, wordTexts, patternTexts, shortestTexts, textsFor};
 use gate_words::Part;
 use input::Input;
 use ring::Point;
@@ -44,21 +44,11 @@ fn put_pattern(out: &mut [u8], k: u8, u: Point, t: Point) -> usize
     ensures { λ r. ⌜ Puts (now (out .entry), 0) (patternTexts k u t) (now (out .exit), r) 363 ⌝ }
 {
     let m = ring::pulse_count(u.exponent(k));
-    let a = put_number(out, 0, b"scale", k as u64);
+    let a = texts::put_number(out, 0, b"scale", k as u64);
     let b = put_point(out, a, b"u", u);
     let c = put_point(out, b, b"t", t);
-    let d = put_number(out, c, b"m", m);
+    let d = texts::put_number(out, c, b"m", m);
     put_word(out, d, k, u, t)
-}
-
-// A word and a number.
-fn put_number(out: &mut [u8], at: usize, name: &[u8], n: u64) -> usize
-    ensures { λ r. ⌜ Puts (now (out .entry), at) (numberTexts (now (name .entry)) n) (now (out .exit), r) (length (now (name .entry)) + 22) ⌝ }
-{
-    let a = text::put_bytes(out, at, name);
-    let b = text::put_byte(out, a, b' ');
-    let c = text::put_unsigned(out, b, n);
-    text::put_byte(out, c, b'\n')
 }
 
 // A word and four numbers.
@@ -89,7 +79,7 @@ fn put_word(out: &mut [u8], at: usize, k: u8, u: Point, t: Point) -> usize
     let p = gate_words::spell_part(k, u, t, &mut first, &mut second);
     let a = put_name(out, at, p);
     let b = text::put_bytes(out, a, b"word ");
-    let c = text::put_bytes(out, b, gate_words::chosen(p, &first, &second));
+    let c = texts::put_word(out, b, gate_words::chosen(p, &first, &second));
     text::put_byte(out, c, b'\n')
 }
 

@@ -50,8 +50,8 @@ fn timed(mode: u8, given: &[u8], out: &mut [u8]) -> u64 {
 fn one(mode: u8, given: &[u8], out: &mut [u8], i: u64) -> u64 {
     match mode {
         b'c' => ticks(tariff::cost(prices(i), given, 4000000000)),
-        b'w' => length(qasm::write(given, out)),
-        b'r' => length(qasm::read(given, out)),
+        b'w' => length(qasm_lines::write(given, out)),
+        b'r' => length(qasm_lines::read(given, out)),
         _ => 0,
     }
 }
@@ -72,9 +72,9 @@ fn ticks(a: tariff::Answer) -> u64 {
     }
 }
 
-fn length(a: qasm::Answer) -> u64 {
+fn length(a: qasm_lines::Answer) -> u64 {
     match a {
-        qasm::Answer::Wrote(n) => n as u64,
-        qasm::Answer::Refused(why) => why.number() as u64,
+        qasm_lines::Answer::Wrote(n) => n as u64,
+        qasm_lines::Answer::Refused(why) => why.number() as u64,
     }
 }

@@ -6,7 +6,7 @@ use lib.ListN.{length}
 use Rattle.kinds.specs.Kinds.{number}
 use Rattle.list_lines.specs.Lines.{refusalLine, tooLongLine}
 use Rattle.input.specs.Load.{loadOf}
-use Rattle.pattern_text.specs.Puts.{one, retext}
+use Rattle.texts.specs.Puts.{one, retext}
 use Rattle.pattern_text.specs.Pattern.{loaded-texts}
 use borrow.Author.Needs.{needs}
 use Rattle.pattern_text.proofs.put.Statement.{statement}

@@ -3,7 +3,8 @@ use Rattle.pattern_text.proofs.Sizes.{word-size}
 use mathlib.Core.Path.{sym, _∙_}
 use mathlib.Core.List.{[], _∷_}
 use Rattle.gate_words.specs.Laws.{part-is}
-use Rattle.pattern_text.specs.Puts.{one, join}
+use Rattle.texts.specs.Puts.{one, join}
+use Rattle.texts.specs.Texts.{shown, shown-size}
 use borrow.Author.Needs.{needs}
 use Rattle.pattern_text.proofs.put_word.Statement.{statement}
 use Rattle.pattern_text.proofs.put_word.Tie as tie
@@ -41,8 +42,8 @@ slice-aggregate-chosen-2 c = search needs
 chosen-requires : tie.Need-chosen-requires
 chosen-requires c κs = search needs
 
-put-bytes-requires-2 : tie.Need-put-bytes-requires-2
-put-bytes-requires-2 c κs = search needs
+put-word-requires : tie.Need-put-word-requires
+put-word-requires c κs = search needs
 
 put-byte-requires : tie.Need-put-byte-requires
 put-byte-requires c κs = search needs
@@ -66,8 +67,8 @@ returns c =
     let word = ch .chosen .ensures .0 ∙ rw (sym (l1 .letters .ensures), sym (l2 .letters2 .ensures)) at (part-is (s .args .k) (s .args .u) (s .args .t) (l1 .letters .result) (l2 .letters2 .result) hands) in
     join (rw which at (n .put-name .ensures))
     (join (one (n .put-name .last .0) (n .put-name .result) (119 ∷ 111 ∷ 114 ∷ 100 ∷ 32 ∷ []) (b .put-bytes .last .0) (b .put-bytes .result) 5 (lit≤ tt) (b .put-bytes .ensures))
-    (join (rw word at (one (b .put-bytes .last .0) (b .put-bytes .result) (ch .chosen .result .now) (w .put-bytes2 .last .0) (w .put-bytes2 .result) 128 (rw word (word-size (s .args .k) (s .args .u) (s .args .t))) (w .put-bytes2 .ensures)))
-    (one (w .put-bytes2 .last .0) (w .put-bytes2 .result) (10 ∷ []) (z .put-byte .last .0) (z .put-byte .result) 1 (lit≤ tt) (z .put-byte .ensures))))
+    (join (rw word at (one (b .put-bytes .last .0) (b .put-bytes .result) (shown (ch .chosen .result .now)) (w .put-word .last .0) (w .put-word .result) 128 (shown-size _ 128 (lit≤ tt) (rw word (word-size (s .args .k) (s .args .u) (s .args .t)))) (w .put-word .ensures)))
+    (one (w .put-word .last .0) (w .put-word .result) (10 ∷ []) (z .put-byte .last .0) (z .put-byte .result) 1 (lit≤ tt) (z .put-byte .ensures))))
 
 pub put-word-spec : {M : Type 1} → statement M
 put-word-spec =
@@ -84,7 +85,7 @@ put-word-spec =
     slice-aggregate-chosen
     slice-aggregate-chosen-2
     chosen-requires
-    put-bytes-requires-2
+    put-word-requires
     put-byte-requires
     same-length
     returns)

@@ -1,0 +1,19 @@
+-- A run of a program that prints one text for its whole input: an input that is read, and f of it where the reading did not fail. Assumes nothing.
+use mathlib.Core.Path.{_≡_, ap, sym, _∙_}
+use mathlib.Core.Bool.{Bool, true, false}
+use mathlib.Core.List.{List}
+use Prim.Native.Nat.{ℕ}
+use lib.ListN.{take}
+use Rattle.transfer.specs.declared.Transfer.{Transfer}
+use Rattle.transfer.specs.Sending.{Sent, sent-all}
+use Rattle.transfer.specs.Receiving.{Received, received-bytes}
+
+pub record Answered (f : List ℕ → List ℕ) (buf : List ℕ) (r : Bool) : Type 0 where
+  pub got : Transfer
+  pub read : Received buf got
+  pub came : r ≡ true → got .failed ≡ false
+  pub said : got .failed ≡ false → Sent (f (take (got .at) buf)) r
+
+-- where the answer is true, the bytes taken are f of the bytes that the reads gave
+pub answered-all : {f : List ℕ → List ℕ} {buf : List ℕ} {r : Bool} → (h : Answered f buf r) → (e : r ≡ true) → h .said (h .came e) .taken ≡ f (h .read .bytes)
+answered-all {f} h e = sent-all (h .said (h .came e)) e ∙ sym (ap f (received-bytes (h .read)))

@@ -1,0 +1,44 @@
+// The program `unqasm`: a file of OpenQASM 2.0 on standard input, its word on standard output. SPEC, "OpenQASM programs".
+ghost use mathlib.Core.Path.{_≡_};
+ghost use lib.ListN.{length};
+ghost use Rattle.transfer.specs.Sending.{Sent};
+ghost use Rattle.filter.specs.Answered.{Answered};
+ghost use Rattle.qasm_file.specs.File.{backOf};
+
+fn main() {
+    let mut input = input_buffer();
+    answer(&mut input);
+}
+
+// Whether the input came without a failure and all of its output was taken. After a read that failed nothing is printed.
+fn answer(input: &mut [u8]) -> bool
+    ensures { λ r. ⌜ Answered backOf (now (input .exit)) r ⌝ }
+{
+    let got = filter::read(input);
+    let n = got.at;
+    if got.failed {
+        return false;
+    }
+    say(&input[..n])
+}
+
+fn say(bytes: &[u8]) -> bool
+    ensures { λ r. ⌜ Sent (backOf (now (bytes .entry))) r ⌝ }
+{
+    let mut out = output_buffer();
+    let n = qasm_file::put_back(&mut out, bytes);
+    filter::print(&out, n)
+}
+
+fn output_buffer() -> [u8; 65537]
+    ensures { λ r. ⌜ 65537 ≡ length r ⌝ }
+{
+    [0; 65537]
+}
+
+// One byte more than a file may have.
+fn input_buffer() -> [u8; 524336]
+    ensures { λ r. ⌜ 524336 ≡ length r ⌝ }
+{
+    [0; 524336]
+}
