@@ -15,6 +15,7 @@ use region::Slice;
 
 // The greatest part of a slice's direction, and its greatest w.
 const LONGEST: u64 = 100;
+
 const FARTHEST: u64 = 1000000;
 
 // A direction that a slice may have.
