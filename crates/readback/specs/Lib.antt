@@ -1,2 +1,3 @@
--- What `forms` writes, `record` reads.
+-- What `forms` writes (`Read`), and what `job` writes (`Rows`), `record` reads.
 pub mod Read
+pub mod Rows

@@ -76,7 +76,7 @@ pub fn line_end(s: &[u8], at: usize) -> usize
 }
 
 // The place after the run of bytes from `at` on that are b, or that are not.
-fn run_end(s: &[u8], at: usize, b: u8, same: bool) -> usize
+pub fn run_end(s: &[u8], at: usize, b: u8, same: bool) -> usize
     ensures { λ r. ⌜ r ≡ runEnd (isByte b same) (now (s .entry)) at ⌝ }
 {
     let mut i = at;

@@ -125,7 +125,7 @@ pub fn command_of(word: &[u8]) -> usize
 }
 
 // The place of a word among the words of a text.
-fn place_of(word: &[u8], text: &[u8]) -> usize
+pub fn place_of(word: &[u8], text: &[u8]) -> usize
     ensures { λ r. ⌜ r ≡ placeOf (now (word .entry)) (wordsOf (now (text .entry))) ⌝ }
 {
     let mut at = 0;

@@ -1,0 +1,38 @@
+// The program `job`: a job in words on standard input, its records on standard output. SPEC, "Jobs in words".
+ghost use mathlib.Core.Path.{_≡_};
+ghost use lib.ListN.{length};
+ghost use Rattle.transfer.specs.Sending.{Sent};
+ghost use Rattle.filter.specs.Answered.{Answered};
+ghost use Rattle.job_words.specs.Rows.{jobOf};
+
+fn main() {
+    let mut input = filter::input_buffer();
+    answer(&mut input);
+}
+
+// Whether the input came without a failure and all of its output was taken. After a read that failed nothing is printed.
+fn answer(input: &mut [u8]) -> bool
+    ensures { λ r. ⌜ Answered jobOf (now (input .exit)) r ⌝ }
+{
+    let got = filter::read(input);
+    let n = got.at;
+    if got.failed {
+        return false;
+    }
+    say(&input[..n])
+}
+
+fn say(bytes: &[u8]) -> bool
+    ensures { λ r. ⌜ Sent (jobOf (now (bytes .entry))) r ⌝ }
+{
+    let mut out = output_buffer();
+    let n = job_words::put(&mut out, bytes);
+    filter::print(&out, n)
+}
+
+// Room for a record for every byte.
+fn output_buffer() -> [u8; 1376256]
+    ensures { λ r. ⌜ 1376256 ≡ length r ⌝ }
+{
+    [0; 1376256]
+}

@@ -1,0 +1,90 @@
+// A job in words as its records: SPEC, "Jobs in words".
+ghost use mathlib.Core.Path.{_≡_};
+ghost use Prim.Native.Nat.{_≤_};
+ghost use lib.ListN.{length};
+ghost use Rattle.forms.specs.Laid.{Laid};
+ghost use Rattle.texts.specs.Puts.{Puts};
+ghost use Rattle.job_words.specs.Rows.{rowOf, rowsOf, isBad, rowBytes, firstBad, bytesOf, jobTexts};
+
+mod reading;
+
+use kinds::Kind;
+
+// Nothing, where the line is blank; else a record of a kind with the first `count` numbers, where it is good.
+struct Row {
+    kind: Kind,
+    numbers: [i64; 16],
+    count: usize,
+    blank: bool,
+    good: bool,
+}
+
+// All that `job` prints for an input.
+pub fn put(out: &mut [u8], bytes: &[u8]) -> usize
+    ensures { λ r. ⌜ Puts (now (out .entry), 0) (jobTexts (now (bytes .entry))) (now (out .exit), r) 1376256 ⌝ }
+{
+    if 65536 < bytes.len() {
+        return list_lines::put_too_long(out, 0);
+    }
+    let line = bad_line(bytes);
+    if line == 0 {
+        put_records(out, bytes)
+    } else {
+        texts::put_number(out, 0, b"bad line", line as u64)
+    }
+}
+
+// The number of the first line that says no record, from 1 on; 0 where there is none.
+fn bad_line(bytes: &[u8]) -> usize
+    ensures { λ r. ⌜ r ≡ firstBad 1 (rowsOf (now (bytes .entry))) ⌝ }
+{
+    let mut at = 0;
+    let mut line = 1;
+    while at < bytes.len() {
+        let end = scan::line_end(bytes, at);
+        if is_bad(&bytes[at..end]) {
+            return line;
+        }
+        at = end + 1;
+        line += 1;
+    }
+    0
+}
+
+// The records of all lines.
+fn put_records(out: &mut [u8], bytes: &[u8]) -> usize
+    ensures { λ r. ⌜ Laid (now (out .entry)) 0 (bytesOf (rowsOf (now (bytes .entry)))) (now (out .exit)) r ⌝ }
+{
+    let mut at = 0;
+    let mut end_of = 0;
+    while at < bytes.len() {
+        let end = scan::line_end(bytes, at);
+        end_of = put_row(out, end_of, &bytes[at..end]);
+        at = end + 1;
+    }
+    end_of
+}
+
+fn is_bad(line: &[u8]) -> bool
+    ensures { λ r. ⌜ r ≡ isBad (rowOf (now (line .entry))) ⌝ }
+{
+    let r = reading::row_of(line);
+    if r.blank { false } else { !r.good }
+}
+
+// A line's record, where it says one.
+fn put_row(out: &mut [u8], at: usize, line: &[u8]) -> usize
+    ensures { λ r. ⌜ Laid (now (out .entry)) at (rowBytes (rowOf (now (line .entry)))) (now (out .exit)) r ⌝ }
+{
+    let r = reading::row_of(line);
+    if r.blank {
+        return at;
+    }
+    if !r.good {
+        return at;
+    }
+    let numbers = r.numbers;
+    let count = r.count;
+    let kind = r.kind;
+    forms::put_record(out, at, kind, &numbers[..count])
+}
