@@ -26,8 +26,9 @@ ROOTS = [
     ("Ticket 9, the sign", {"signs/src/wide.rt": "wide_sign_of"}),
     ("Ticket 10, trays", {"tray/src/lib.rt": "take hand_out rewind clear", "tray/specs/RunCalls.antt": "run-first run-count run-end run-refused run-points run-finished", "tray/specs/Run.antt": "run-rules"}),
     ("Ticket 11, the tally", {"tallied/specs/Counted.antt": "run-tallied"}),
-    ("Ticket 12, OpenQASM lines", {"qasm/src/lib.rt": "write read", "qasm/specs/Laws.antt": "same-text word-text text-word text-iff"}),
+    ("Ticket 12, OpenQASM lines", {"qasm_lines/src/lib.rt": "write read", "qasm_lines/specs/Laws.antt": "same-text word-text text-word text-iff"}),
     ("Ticket 14, pattern sheets", {"sheet/src/lib.rt": "read write", "sheet/specs/Crew.antt": "crew-same crew-blind"}),
+    ("What the other programs print", {"pattern_text/src/lib.rt": "put", "job_words/src/lib.rt": "put", "qasm_file/src/lib.rt": "put_file put_word"}),
     ("No word at all is shorter", {"t_count/specs/Calls.antt": "run-fewest run-beyond"}),
 ]
 NAME = r"[^\s(){}\[\],;`\"'.:λ∀→×≡¬]+"
