@@ -11,9 +11,9 @@ ghost use Rattle.line.specs.Given.{Given};
 
 mod search;
 
-use search::Digits;
-use search::Spot;
+use thin::Digits;
 pub use thin::Interval;
+use thin::Spot;
 
 // Coordinates of a pair, and ends of an interval, lie within ±10,000.
 const HIGHEST: i32 = thin::BOUND as i32;
@@ -71,13 +71,14 @@ fn hand_out(first: Interval, second: Interval, p: Digits, out: &mut [i32]) -> An
 {
     let n = out.len() / 2;
     let mut k = 0;
-    let mut f = search::next(first, second, p);
+    let c = thin::reduced(first, second);
+    let mut f = thin::onward(c, p);
     while k < n {
         match f {
             Spot::At(q) => {
                 put(out, 2 * k, q);
                 k += 1;
-                f = search::next(first, second, Digits { a: q.a, b: q.b + 1 });
+                f = thin::next(c, Digits { a: q.a, b: q.b + 1 });
             }
             Spot::Ended => {
                 break;

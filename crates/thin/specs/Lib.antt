@@ -1,4 +1,4 @@
--- `Line` has the definitions; `Narrow` the shift and the scaling, `Skip` what comes of them.
+-- `Line` has the definitions; `Narrow` the shift and the scaling, `Scaled` the problem that they leave, `Walk` how its pairs are met, `Turns` that they are the problem's.
 pub mod Line
 pub mod Narrow
 pub mod Sized
@@ -7,5 +7,6 @@ pub mod Whole
 pub mod Ends
 pub mod Bounds
 pub mod Past
+pub mod Scaled
 pub mod Walk
-pub mod Skip
+pub mod Turns

@@ -5,7 +5,8 @@ use mathlib.Core.Bool.{true}
 use mathlib.Core.Logic.{_⊎_, inl, inr}
 use mathlib.Core.List.{[], _∷_}
 use native.Mathlib.Omega.{arith}
-use lib.IntN.{ℤ, pos, negsuc, negℤ, _-ℤ_, _*ℤ_}
+use Prim.Native.Nat.{ℕ}
+use lib.IntN.{ℤ, pos, negsuc, negℤ, _+ℤ_, _-ℤ_, _*ℤ_}
 use Rattle.integers.specs.Booleans.{both-true}
 use Rattle.integers.specs.Difference.{by⊖, zz, _≼_, _≺_}
 use Rattle.integers.specs.Order.{≼-trans}
@@ -13,8 +14,8 @@ use Rattle.integers.specs.Ring.{poly, by-ring}
 use Rattle.integers.specs.RingZ.{polyZ}
 use Rattle.integers.specs.RingZ as Z
 use Rattle.ring.specs.declared.RootTwo.{RootTwo}
-use Rattle.ring.specs.RootTwo.{_⊞_, _⊟_, _⊠_, neg, conj, num, √2, ring√, ext, parts, sum-parts, neg-parts, num-parts, num-*}
-use Rattle.ring.specs.RootTwo.Order.{Nn, nn-by, nn-+, nn-*, nn-num, nn-√2, nn-cancel, nn-zero, num-⊑}
+use Rattle.ring.specs.RootTwo.{_⊞_, _⊟_, _⊠_, neg, conj, num, √2, ring√, ext, parts, sum-parts, neg-parts, num-parts, num-*, conj-num}
+use Rattle.ring.specs.RootTwo.Order.{Nn, nn-by, nn-+, nn-*, nn-num, nn-√2, one⊑√2, nn-cancel, nn-zero, num-⊑}
 use Rattle.rows.specs.declared.Band.{Band}
 use Rattle.rows.specs.Row.{at, above, below}
 use Rattle.rows.specs.Steps.{solved, shiftOf, timesOf, conj-⊟, undo, inverse-sym, Even, even-unit, shift-holds, scale-even}
@@ -186,6 +187,87 @@ module _ (s t : Band) (α u : RootTwo) (e : Even u) (one : pos 1 ≼ t .m) where
     rises (inl h) = clash (before-p h)
     rises (inr h) = clash (before-q (h .0) (h .1))
 
+-- ---- a strip at most 1 wide has one b for an a
+module _ (s t : Band) (one : pos 1 ≼ t .m) (narrow : Wide (pos 1) t) where
+  no-later : (z w : RootTwo) → solved s t z ≡ true → solved s t w ≡ true → z .p ≡ w .p → z .q ≺ w .q → ⊥
+  no-later z w hz hw e l = clash (nn-zero (num (pos 1) ⊟ √2) low (nn-by (turn √2) one⊑√2))
+    where
+      positive : pos 0 ≼ t .m
+      positive = ≼-trans (pos 0) (pos 1) (t .m) (record { le = tt }) one
+
+      k : ℤ
+      k = w .q -ℤ z .q
+
+      k-one : pos 1 ≼ k
+      k-one = go (z .q) (w .q) l
+        where
+          go : (a b : ℤ) → a ≺ b → pos 1 ≼ b -ℤ a
+          go = by⊖ _ λ p p′. by⊖ _ λ q q′. simp zz (omega arith)
+
+      -- z• − w• = k√2
+      apart : conj z ⊟ conj w ≡ num k ⊠ √2
+      apart = simp parts (ext (none (z .p) (w .p) e (z .q) (w .q)) (Z.by-ring (z .q ∷ w .q ∷ []) (search polyZ depth 30) refl))
+        where
+          none : (a b : ℤ) → a ≡ b → (c d : ℤ) → a +ℤ negℤ b ≡ (d -ℤ c) *ℤ pos 0 +ℤ pos 2 *ℤ (pos 0 *ℤ pos 1)
+          none a b f c d = ap (λ x. x +ℤ negℤ b) f ∙ Z.by-ring (b ∷ c ∷ d ∷ []) (search polyZ depth 30) refl
+
+      low : Nn (num (pos 1) ⊟ √2)
+      low =
+          nn-cancel (num (t .m)) (num (pos 1) ⊟ √2) (num-⊑ one)
+          (nn-by (step (num (t .m)) (num k) (conj z) (conj w) (t .hi) (t .lo) √2 ∙ ap (λ x. num (t .m) ⊠ (num (pos 1) ⊟ x ⊞ (num k ⊟ num (pos 1)) ⊠ √2)) apart ∙ last (num (t .m)) (num k) √2)
+          (nn-+ (nn-+ (nn-+ narrow (bounds s t z hz .conj-hi)) (bounds s t w hw .conj-lo)) (nn-* (nn-num positive) (nn-* (num-⊑ k-one) nn-√2))))
+        where
+          step : (m k z w h l r : RootTwo) → num (pos 1) ⊠ m ⊟ (h ⊟ l) ⊞ (h ⊟ m ⊠ z) ⊞ (m ⊠ w ⊟ l) ⊞ m ⊠ ((k ⊟ num (pos 1)) ⊠ r) ≡ m ⊠ (num (pos 1) ⊟ (z ⊟ w) ⊞ (k ⊟ num (pos 1)) ⊠ r)
+          step m k z w h l r = by-ring ring√ (m ∷ k ∷ z ∷ w ∷ h ∷ l ∷ r ∷ []) (search poly depth 40) refl
+
+          last : (m k r : RootTwo) → m ⊠ (num (pos 1) ⊟ k ⊠ r ⊞ (k ⊟ num (pos 1)) ⊠ r) ≡ m ⊠ (num (pos 1) ⊟ r)
+          last m k r = by-ring ring√ (m ∷ k ∷ r ∷ []) (search poly depth 40) refl
+
+      turn : (r : RootTwo) → r ⊟ num (pos 1) ≡ neg (num (pos 1) ⊟ r)
+      turn r = by-ring ring√ (r ∷ []) (search poly depth 30) refl
+
+      clash : num (pos 1) ⊟ √2 ≡ num (pos 0) → ⊥
+      clash f = no (sym (ap (λ (x : RootTwo). x .p) whole) ∙ zero-p (num (pos 1) ⊟ √2) f)
+        where
+          whole : num (pos 1) ⊟ √2 ≡ at (pos 1) (negsuc 0)
+          whole = simp parts refl
+
+          no : pos 1 ≡ pos 0 → ⊥
+          no h = let y : _≡_ {A = ℕ} 1 0 = cc in omega arith
+
+  pub same-row : (z w : RootTwo) → solved s t z ≡ true → solved s t w ≡ true → z .p ≡ w .p → (z .q ≺ w .q) ⊎ (w .q ≺ z .q) → ⊥
+  same-row z w hz hw e (inl l) = no-later z w hz hw e l
+  same-row z w hz hw e (inr l) = no-later w z hw hz (sym e) l
+
+-- a strip at most 1 wide is at most 2 wide where it is not scaled
+pub wide-one : (t : Band) (α u : RootTwo) → pos 1 ≼ t .m → u ≡ at (pos 1) (pos 0) → Wide (pos 1) t → Wide (pos 2) (secondOf t α u)
+wide-one t α u one e n =
+    nn-by (step (num (t .m)) (t .hi) (t .lo) (conj α) ∙ ap (λ x. num (pos 2) ⊠ num (t .m) ⊟ (x ⊠ (t .hi ⊟ num (t .m) ⊠ conj α) ⊟ x ⊠ (t .lo ⊟ num (t .m) ⊠ conj α))) (sym unit))
+    (nn-+ n (nn-num (≼-trans (pos 0) (pos 1) (t .m) (record { le = tt }) one)))
+  where
+    unit : conj u ≡ num (pos 1)
+    unit = ap conj (e ∙ sym (num-parts (pos 1))) ∙ conj-num (pos 1)
+
+    step : (m h l a : RootTwo) → num (pos 1) ⊠ m ⊟ (h ⊟ l) ⊞ m ≡ num (pos 2) ⊠ m ⊟ (num (pos 1) ⊠ (h ⊟ m ⊠ a) ⊟ num (pos 1) ⊠ (l ⊟ m ⊠ a))
+    step m h l a = by-ring ring√ (m ∷ h ∷ l ∷ a ∷ []) (search poly depth 40) refl
+
+-- ---- the text's a_max: 2a ≤ I_r + J_r
+pub row-last : (f g : Band) (z : RootTwo) → pos 0 ≼ f .m → pos 0 ≼ g .m → solved f g z ≡ true → below (record { m = pos 2 *ℤ f .m *ℤ g .m; lo = f .lo; hi = num (g .m) ⊠ f .hi ⊞ num (f .m) ⊠ g .hi }) (at (z .p) (pos 0)) ≡ true
+row-last f g z p q hz =
+    nn-by (step (num (f .m)) (num (g .m)) z (conj z) (f .hi) (g .hi) ∙ ap (λ x. num (g .m) ⊠ f .hi ⊞ num (f .m) ⊠ g .hi ⊟ x) (sym sum))
+    (nn-+ (nn-* (nn-num q) (bounds f g z hz .hi)) (nn-* (nn-num p) (bounds f g z hz .conj-hi))) .nn
+  where
+    step : (m n z w h k : RootTwo) → n ⊠ (h ⊟ m ⊠ z) ⊞ m ⊠ (k ⊟ n ⊠ w) ≡ n ⊠ h ⊞ m ⊠ k ⊟ m ⊠ n ⊠ (z ⊞ w)
+    step m n z w h k = by-ring ring√ (m ∷ n ∷ z ∷ w ∷ h ∷ k ∷ []) (search poly depth 40) refl
+
+    double : (m n k : RootTwo) → num (pos 2) ⊠ m ⊠ n ⊠ k ≡ m ⊠ n ⊠ (k ⊞ k)
+    double m n k = by-ring ring√ (m ∷ n ∷ k ∷ []) (search poly depth 40) refl
+
+    sum : num (pos 2 *ℤ f .m *ℤ g .m) ⊠ at (z .p) (pos 0) ≡ num (f .m) ⊠ num (g .m) ⊠ (z ⊞ conj z)
+    sum =
+        ap₂ _⊠_ (num-* (pos 2 *ℤ f .m) (g .m) ∙ ap (λ x. x ⊠ num (g .m)) (num-* (pos 2) (f .m))) (sym (num-parts (z .p)))
+        ∙ double (num (f .m)) (num (g .m)) (num (z .p)) ∙ ap (λ x. num (f .m) ⊠ num (g .m) ⊠ x) (sym (twice z))
+
 -- ---- the rows a' of the pairs with a from `from` to `to`
 abbrev pub endOf : RootTwo → ℤ → RootTwo → RootTwo → RootTwo
 endOf u k x y = u ⊠ (num k ⊟ x) ⊞ y
@@ -250,23 +332,3 @@ module _ (s t : Band) (α u : RootTwo) (e : Even u) (one : pos 1 ≼ t .m) (w : 
 
         step : (m u p k c d h l : RootTwo) → u ⊠ (m ⊠ (p ⊟ k) ⊞ m ⊠ (p ⊟ k) ⊞ (h ⊟ m ⊠ c)) ⊞ (m ⊠ d ⊟ l) ≡ m ⊠ (u ⊠ (p ⊞ p ⊟ c) ⊞ d) ⊟ (u ⊠ (num (pos 2) ⊠ m ⊠ k ⊟ h) ⊞ l)
         step m u p k c d h l = by-ring ring√ (m ∷ u ∷ p ∷ k ∷ c ∷ d ∷ h ∷ l ∷ []) (search poly depth 60) refl
-
-    pub row-to : w .p ≼ b → below (rowsOf t α u a b) (at (y .p) (pos 0)) ≡ true
-    row-to h =
-        nn-by (step (num (t .m)) u (num (x .p)) (num k) (conj x) (conj y) l1 h2 ∙ ap₂ (λ p q. u ⊠ (q ⊟ l1) ⊞ h2 ⊟ p) (sym scaled) (sym (product k)))
-        (nn-+ (nn-* (even-unit e .nn) (nn-+ (nn-+ more more) (first .conj-lo))) (second .conj-hi)) .nn
-      where
-        k : ℤ
-        k = b -ℤ α .p
-
-        l1 : RootTwo
-        l1 = shiftOf t (conj α) .lo
-
-        h2 : RootTwo
-        h2 = secondOf t α u .hi
-
-        more : Nn (num (t .m) ⊠ (num k ⊟ num (x .p)))
-        more = nn-* m-nn (num-⊑ (subst (λ j. j ≼ k) (sym (less-p w α)) (moved (w .p) b (α .p) h)))
-
-        step : (m u p k c d l h : RootTwo) → u ⊠ (m ⊠ (k ⊟ p) ⊞ m ⊠ (k ⊟ p) ⊞ (m ⊠ c ⊟ l)) ⊞ (h ⊟ m ⊠ d) ≡ u ⊠ (num (pos 2) ⊠ m ⊠ k ⊟ l) ⊞ h ⊟ m ⊠ (u ⊠ (p ⊞ p ⊟ c) ⊞ d)
-        step m u p k c d l h = by-ring ring√ (m ∷ u ∷ p ∷ k ∷ c ∷ d ∷ l ∷ h ∷ []) (search poly depth 60) refl

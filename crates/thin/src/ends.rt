@@ -1,10 +1,10 @@
-// An interval as a strip, its ends divided by n, and the rows between which all pairs stand.
+// An interval as a strip, its ends divided by n, and the row from which on all pairs stand.
 ghost use mathlib.Core.Path.{_≡_};
 ghost use Prim.Native.Nat.{_*_};
 ghost use Rattle.thin.specs.Line.{bound};
 ghost use Rattle.thin.specs.Strips.{stripOf, Ranged};
-ghost use Rattle.thin.specs.Ends.{Divided, floorOf, ceilingOf};
-ghost use Rattle.thin.specs.Bounds.{firstRow, lastRow};
+ghost use Rattle.thin.specs.Ends.{Divided, floorOf};
+ghost use Rattle.thin.specs.Bounds.{firstRow};
 ghost use Rattle.thin.specs.Past.{pastOf};
 use crate::BOUND;
 use crate::Interval;
@@ -55,26 +55,10 @@ pub(crate) fn floor(n: i64, x: i64) -> u64
     (x + HIGHEST * n) as u64 / n as u64
 }
 
-// ⌈x/n⌉ + 10,000.
-fn ceiling(n: i64, x: i64) -> u64
-    requires { ⌜ Divided bound n x ⌝ }
-    ensures { λ r. ⌜ r ≡ ceilingOf n x ⌝ }
-{
-    floor(n, x + n - 1)
-}
-
 // No pair stands in a row before this one.
 pub fn first_row(s: Band, t: Band) -> u64
     requires { ⌜ Ranged s × Ranged t ⌝ }
     ensures { λ r. ⌜ r ≡ firstRow s t ⌝ }
 {
     (floor(s.m, s.lo.p) + floor(t.m, t.lo.p)) / 2
-}
-
-// No pair stands in a row after this one.
-pub fn last_row(s: Band, t: Band) -> u64
-    requires { ⌜ Ranged s × Ranged t ⌝ }
-    ensures { λ r. ⌜ r ≡ lastRow s t ⌝ }
-{
-    (ceiling(s.m, s.hi.p) + ceiling(t.m, t.hi.p)) / 2
 }

@@ -2,15 +2,20 @@
 // `shift-holds` and `scale-holds` say that each keeps the pairs, for every α₀ and every power, so what is chosen here is a matter of speed alone.
 ghost use mathlib.Core.Path.{_≡_};
 ghost use Prim.Native.Nat.{_≤_};
-ghost use lib.IntN.{natAbs};
+ghost use lib.IntN.{pos, natAbs, _-ℤ_, _*ℤ_};
+ghost use lib.Signed.{leZ};
 ghost use Rattle.ring.specs.RootTwo.{_⊟_, _⊠_, num};
 ghost use Rattle.ring.specs.RootTwo.Order.{nonneg};
+ghost use Rattle.rows.specs.Row.{at};
 ghost use Rattle.rows.specs.Steps.{shiftOf, timesOf, Even};
+ghost use Rattle.thin.specs.Strips.{Ranged};
 ghost use Rattle.thin.specs.Narrow.{endOf};
+ghost use Rattle.thin.specs.Scaled.{Chosen};
 ghost use Rattle.thin.specs.Sized.{Sized, Ends, whole, shifted, scaled, unitSize};
 use ring::RootTwo;
 use rows::Band;
 use surds::combined;
+use surds::conjugate;
 use surds::is_nonneg;
 use surds::product;
 
@@ -26,33 +31,36 @@ pub(crate) fn shift(s: Band, w: RootTwo) -> Band
     }
 }
 
-// Internal step 4: n = −2k, for the greatest k up to 5 at which the strip times (3 + 2√2)^k is at most 2 wide, or 0.
-pub(crate) fn exponent(s: Band) -> u64
-    requires { ⌜ Ends whole s ⌝ }
+// Whether a side is at most an eighth wide: 8·(hi − lo) ≤ m.
+pub(crate) fn is_thin(s: Band) -> bool
+    requires { ⌜ Ranged s ⌝ }
+    ensures { λ r. ⌜ r ≡ leZ (pos 8 *ℤ (s .hi .p -ℤ s .lo .p)) (s .m) ⌝ }
 {
-    let w = s.hi.p - s.lo.p;
-    let m = 2 * s.m;
-    if 6726 * w <= m {
-        return 5;
+    8 * (s.hi.p - s.lo.p) <= s.m
+}
+
+// Internal step 4: n = −2k for the greatest k up to 5 at which the strip times (3 + 2√2)^k is at most 2 wide, or 0.
+pub(crate) fn unit(s: Band, thin: bool) -> RootTwo
+    requires { ⌜ Ends shifted s ⌝ }
+    ensures { λ r. ⌜ Chosen s thin r ⌝ }
+{
+    if !thin {
+        return power(0);
     }
-    if 1154 * w <= m {
-        return 4;
+    let mut k = 5;
+    while 0 < k {
+        let u = power(k);
+        if is_within(scale(s, conjugate(u)), 2) {
+            return u;
+        }
+        k -= 1;
     }
-    if 198 * w <= m {
-        return 3;
-    }
-    if 34 * w <= m {
-        return 2;
-    }
-    if 6 * w <= m {
-        return 1;
-    }
-    0
+    power(0)
 }
 
 // Internal step 5: λ^(−2k) = (3 − 2√2)^k for k up to 5, and the last one past it. Even powers turn no strip.
 pub(crate) fn power(k: u64) -> RootTwo
-    ensures { λ r. ⌜ Even r × Sized unitSize r ⌝ }
+    ensures { λ r. ⌜ Even r × Sized unitSize r × (k ≡ 0 → r ≡ at (pos 1) (pos 0)) ⌝ }
 {
     match k {
         0 => RootTwo { p: 1, q: 0 },
