@@ -5,6 +5,7 @@ mod bench;
 mod bounds;
 mod bytes;
 mod entry;
+mod files;
 mod generate;
 mod job;
 mod line;
@@ -55,7 +56,11 @@ const USAGE: &str = "usage: peer [list | count | first] < job
        peer t-count LETTERS JOBS SEED [CONSOLE]
        peer words SEED COUNT
        peer gen SEED COUNT DIR
-       peer pack < records > job
+       peer pack < words > job
+       peer text SEED
+       peer qasm < word
+       peer unqasm < file
+       peer pattern JOB < answer
        peer jobs DIR
        peer noise
        peer time CONSOLE SEED COUNT LEAST MOST SLICES LIMIT [CALL]
@@ -98,7 +103,11 @@ fn run(arguments: &[String]) -> Outcome {
         ("gen", [seed, count, directory]) => {
             generate(number(seed)?, number(count)?, Path::new(directory))
         }
-        ("pack", []) => pack(),
+        ("pack", []) => put(&pack::pack(&all_input()?)),
+        ("text", [seed]) => put(&pack::text(number(seed)?)),
+        ("qasm", []) => put(&files::qasm(&all_input()?)),
+        ("unqasm", []) => put(&files::unqasm(&all_input()?)),
+        ("pattern", [job]) => pattern(&fs::read(job)?, &all_input()?),
         ("jobs", [directory]) => write_jobs(Path::new(directory)),
         ("noise", []) => noise(),
         ("time", [console, seed, count, least, most, slices, limit, calls @ ..])
@@ -332,11 +341,30 @@ fn line(numbers: &[i64]) -> Outcome {
     Ok(out.flush()?)
 }
 
-/// Writes the job that standard input spells in words.
-fn pack() -> Outcome {
-    let mut text = String::new();
-    io::stdin().lock().read_to_string(&mut text)?;
-    Ok(io::stdout().write_all(&pack::pack(&text)?)?)
+fn put(bytes: &[u8]) -> Outcome {
+    Ok(io::stdout().write_all(bytes)?)
+}
+
+fn all_input() -> io::Result<Vec<u8>> {
+    let mut bytes = Vec::new();
+    io::stdin().lock().read_to_end(&mut bytes)?;
+    Ok(bytes)
+}
+
+/// Compares what a pattern program answered for a job with the shortest pattern
+/// found here, and multiplies its word out.
+fn pattern(input: &[u8], answer: &[u8]) -> Outcome {
+    let found = match job_of(input) {
+        Err(instead) => Err(format!("{instead}\n")),
+        Ok(job) => {
+            entry::shortest(&job).ok_or_else(|| format!("refused 14 at {}\n", input.len()))
+        }
+    };
+    let agreed = match found {
+        Err(instead) => answer == instead.as_bytes(),
+        Ok((k, u, t)) => t_count::is_pattern(answer, k, u, t),
+    };
+    say(if agreed { "agreed" } else { "differs" })
 }
 
 /// Writes the jobs of the benchmark, each also as readings for a console.

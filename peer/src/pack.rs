@@ -1,35 +1,132 @@
-//! Jobs from words: `scale`, `selection`, `rectangle`, `ellipse`, `slice` or
-//! `operator`, with the fields as numbers in their order.
-
-use std::error::Error;
+//! Jobs in words (SPEC, "Jobs in words").
 
 use crate::job::{encode, fields, ELLIPSE, OPERATOR, RECTANGLE, SCALE, SELECTION, SLICE};
+use crate::random::Random;
 
-/// The bytes of a text with one record a line; empty lines and those that
-/// begin with # are skipped. Values out of range are written as they are.
-pub fn pack(text: &str) -> Result<Vec<u8>, Box<dyn Error>> {
-    let mut bytes = Vec::new();
-    for line in text.lines() {
-        let words: Vec<&str> = line.split_whitespace().collect();
-        if let Some((&name, values)) = words.split_first() {
-            if !name.starts_with('#') {
-                bytes.extend(record(name, values).ok_or_else(|| format!("not a record: {line}"))?);
-            }
-        }
-    }
-    Ok(bytes)
+/// What a line says: nothing, a record, or no record.
+enum Said {
+    Nothing,
+    Record(Vec<u8>),
+    Bad,
 }
 
-fn record(name: &str, values: &[&str]) -> Option<Vec<u8>> {
-    let kind = match name {
-        "scale" => SCALE,
-        "rectangle" => RECTANGLE,
-        "ellipse" => ELLIPSE,
-        "operator" => OPERATOR,
-        "slice" => SLICE,
-        "selection" => SELECTION,
-        _ => return None,
+/// What `job` prints for a text.
+pub fn pack(text: &[u8]) -> Vec<u8> {
+    if text.len() > 65_536 {
+        return b"too long\n".to_vec();
+    }
+    let mut bytes = Vec::new();
+    for (number, line) in text.split(|&b| b == b'\n').enumerate() {
+        match said(line) {
+            Said::Nothing => (),
+            Said::Record(record) => bytes.extend(record),
+            Said::Bad => return format!("bad line {}\n", number + 1).into_bytes(),
+        }
+    }
+    bytes
+}
+
+fn said(line: &[u8]) -> Said {
+    let bare = line.split(|&b| b == b'#').next().unwrap_or(line);
+    let mut words = bare.split(|&b| b == b' ').filter(|word| !word.is_empty());
+    let Some(name) = words.next() else {
+        return Said::Nothing;
     };
-    let values: Vec<i64> = values.iter().map(|word| word.parse().ok()).collect::<Option<_>>()?;
-    (values.len() == fields(kind)?.len()).then(|| encode(kind, &values))
+    let values: Vec<&[u8]> = words.collect();
+    record(name, &values).map_or(Said::Bad, Said::Record)
+}
+
+fn record(name: &[u8], words: &[&[u8]]) -> Option<Vec<u8>> {
+    let (kind, values) = match (name, words) {
+        (b"selection", [b"new"]) => (SELECTION, vec![0]),
+        (b"selection", [b"all"]) => (SELECTION, vec![1]),
+        (b"disk", [n]) => {
+            let n = number(n)?;
+            (ELLIPSE, vec![n, 0, 0, 1, 0, 1, n.checked_mul(n)?])
+        }
+        _ => (kind(name)?, words.iter().map(|word| number(word)).collect::<Option<_>>()?),
+    };
+    let fields = fields(kind)?;
+    let fit = |(field, &value): (&crate::job::Field, &i64)| {
+        let bits = 8 * field.bytes as u32;
+        if field.signed {
+            (-(1_i64 << (bits - 1))..1_i64 << (bits - 1)).contains(&value)
+        } else {
+            (0..1_i64 << bits).contains(&value)
+        }
+    };
+    (values.len() == fields.len() && fields.iter().zip(&values).all(fit))
+        .then(|| encode(kind, &values))
+}
+
+fn kind(name: &[u8]) -> Option<u8> {
+    match name {
+        b"scale" => Some(SCALE),
+        b"selection" => Some(SELECTION),
+        b"rectangle" => Some(RECTANGLE),
+        b"ellipse" => Some(ELLIPSE),
+        b"slice" => Some(SLICE),
+        b"operator" => Some(OPERATOR),
+        _ => None,
+    }
+}
+
+/// Digits, with a minus before them or not.
+fn number(word: &[u8]) -> Option<i64> {
+    let text = std::str::from_utf8(word).ok()?;
+    if text.starts_with('+') {
+        return None;
+    }
+    text.parse().ok()
+}
+
+/// A random text of lines, most of them right.
+pub fn text(seed: u64) -> Vec<u8> {
+    let mut random = Random::new(seed);
+    let mut text = Vec::new();
+    for _ in 0..random.between(0, 9) {
+        text.extend(line(&mut random));
+        if random.once_in(60) {
+            text.push(random.between(0, 255) as u8);
+        }
+        text.push(b'\n');
+    }
+    if random.once_in(4) {
+        text.pop();
+    }
+    text
+}
+
+fn line(random: &mut Random) -> Vec<u8> {
+    let names =
+        ["scale", "selection", "rectangle", "ellipse", "disk", "slice", "operator", "", "#", "scal"];
+    let counts = [1, 1, 5, 7, 1, 4, 8, 0, 2, 1];
+    let i = if random.once_in(20) { random.index(10) } else { random.index(9) };
+    let mut line = " ".repeat(random.pick(&[0, 0, 0, 2])).into_bytes();
+    line.extend(names[i].bytes());
+    let count = if random.once_in(30) { random.between(0, 17) } else { counts[i] };
+    for _ in 0..count {
+        line.extend(" ".repeat(random.pick(&[1, 1, 1, 3])).bytes());
+        line.extend(value(random, i == 1).bytes());
+    }
+    if random.once_in(6) {
+        line.extend(b" # 7 new".iter());
+    }
+    line
+}
+
+fn value(random: &mut Random, selects: bool) -> String {
+    if selects && !random.once_in(4) {
+        return random.pick(&["new", "all", "0", "1"]).into();
+    }
+    let reach = random.pick(&[1, 20, 100, 10_000, 40_000, 70_000, 1 << 31, 1 << 33, i64::MAX]);
+    match random.between(0, 40) {
+        0 => "x".into(),
+        1 => "18446744073709551616".into(),
+        2 => "-9223372036854775808".into(),
+        3 => "007".into(),
+        4 => "-".into(),
+        5..=12 => random.between(-reach, reach - 1).to_string(),
+        _ => random.between(0, reach.min(20)).to_string(),
+    }
 }

@@ -105,6 +105,30 @@ impl Matrix {
     }
 }
 
+/// Whether a pattern program's answer is that of u and t over √2^k: its lines, and
+/// a word whose product is the matrix U or TUT† that it names, with m T.
+pub fn is_pattern(answer: &[u8], k: u32, u: Point, t: Point) -> bool {
+    let spelled = |v: Point| format!("{} {} {} {}", v.a, v.b, v.c, v.d);
+    let m = pulse_count(u.exponent(k));
+    let front = format!("scale {k}\nu {}\nt {}\nm {m}\nof ", spelled(u), spelled(t));
+    let Some(rest) = answer.strip_prefix(front.as_bytes()) else {
+        return false;
+    };
+    let (rest, t) = match (rest.strip_prefix(b"U\nword "), rest.strip_prefix(b"TUT\nword ")) {
+        (Some(rest), _) => (rest, t),
+        (_, Some(rest)) => (rest, t.turned()),
+        _ => return false,
+    };
+    let Some(shown) = rest.strip_suffix(b"\n") else {
+        return false;
+    };
+    let word = if shown == b"-" { b"" } else { shown };
+    let product = word.iter().rev().fold(Matrix::one(), |matrix, &letter| matrix.after(letter));
+    let wanted = Matrix { k, u, x: t.dagger().negative(), t, y: u.dagger() }.reduced();
+    let ts = word.iter().filter(|&&letter| letter == b'T').count();
+    word.iter().all(|letter| b"HSTW".contains(letter)) && product == wanted && ts == m as usize
+}
+
 fn pulse_count(e: u32) -> u32 {
     (2 * e).saturating_sub(2)
 }

@@ -2,6 +2,9 @@
 use libc::STDIN_FILENO;
 
 fn main() {
+    if usage::told(b"usage: count < JOB\nThe number of points of a job.\n") {
+        return;
+    }
     let mut input = printing::input_buffer();
     let got = streams::read(STDIN_FILENO, b"standard input", &mut input);
     let n = got.at;

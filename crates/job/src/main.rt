@@ -6,6 +6,9 @@ ghost use Rattle.filter.specs.Answered.{Answered};
 ghost use Rattle.job_words.specs.Rows.{jobOf};
 
 fn main() {
+    if usage::told(b"usage: job < WORDS > JOB\nThe records that lines of words say.\n") {
+        return;
+    }
     let mut input = filter::input_buffer();
     answer(&mut input);
 }

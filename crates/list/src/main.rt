@@ -3,6 +3,9 @@ ghost use Rattle.list.specs.Answered.{Answered};
 use libc::STDIN_FILENO;
 
 fn main() {
+    if usage::told(b"usage: list < JOB\nThe points of a job, one a line, and their number.\n") {
+        return;
+    }
     let mut input = printing::input_buffer();
     answer(&mut input);
 }

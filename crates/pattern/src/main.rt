@@ -6,6 +6,9 @@ ghost use Rattle.filter.specs.Answered.{Answered};
 ghost use Rattle.pattern_text.specs.Pattern.{outputOf};
 
 fn main() {
+    if usage::told(b"usage: pattern < JOB\nThe shortest pattern of a job, one fact a line.\n") {
+        return;
+    }
     let mut input = filter::input_buffer();
     answer(&mut input);
 }

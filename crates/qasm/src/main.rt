@@ -6,6 +6,11 @@ ghost use Rattle.filter.specs.Answered.{Answered};
 ghost use Rattle.qasm_file.specs.File.{fileOf};
 
 fn main() {
+    if usage::told(
+        b"usage: qasm < WORD > FILE\nA word, or what pattern printed, as a file of OpenQASM 2.0.\n",
+    ) {
+        return;
+    }
     let mut input = filter::input_buffer();
     answer(&mut input);
 }

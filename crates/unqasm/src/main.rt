@@ -6,6 +6,9 @@ ghost use Rattle.filter.specs.Answered.{Answered};
 ghost use Rattle.qasm_file.specs.File.{backOf};
 
 fn main() {
+    if usage::told(b"usage: unqasm < FILE\nThe word of a file of OpenQASM 2.0.\n") {
+        return;
+    }
     let mut input = input_buffer();
     answer(&mut input);
 }
