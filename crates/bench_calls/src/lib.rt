@@ -56,7 +56,7 @@ fn answered(a: Answer) -> Line {
 // `read HEX`; with no word after it a reading of no bytes.
 fn read(s: Tallied, line: &[u8], from: usize) -> Reply {
     let mut bytes = io::large_buffer();
-    let first = scan::spaces_from(line, from);
+    let first = text_scan::spaces_from(line, from);
     let h = wording::last_bytes(line, first, &mut bytes);
     match h {
         Hex::Bytes(n) => read_bytes(s, &bytes, n),

@@ -74,8 +74,8 @@ struct Command {
 }
 
 fn command_at(line: &[u8]) -> Command {
-    let first = scan::spaces_from(line, 0);
-    let end = scan::word_end(line, first);
+    let first = text_scan::spaces_from(line, 0);
+    let end = text_scan::word_end(line, first);
     let name = wording::command_of(&line[first..end]);
     Command { name, end }
 }

@@ -25,7 +25,7 @@ pub fn bar(s: &[u8], at: usize, end: usize) -> usize
 pub fn cell_from(s: &[u8], at: usize, end: usize) -> Cell
     ensures { λ r. ⌜ (r .start ≤ r .end) × (r .end ≤ length (now (s .entry))) ⌝ }
 {
-    let start = scan::spaces_from(s, at);
+    let start = text_scan::spaces_from(s, at);
     if start < end {
         if end <= s.len() {
             if s[end - 1] == b' ' {

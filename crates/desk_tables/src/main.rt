@@ -40,7 +40,7 @@ fn compare(s: &[u8], table: Table) -> Tally {
     let mut t = Tally::new();
     let mut at = 0;
     while at < s.len() {
-        let end = scan::line_end(s, at);
+        let end = text_scan::line_end(s, at);
         t = t.with(row_right(s, at, end, table));
         at = table_rows::after(s, at, end);
     }

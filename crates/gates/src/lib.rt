@@ -1,7 +1,7 @@
 // Gate words: SPEC, "Gate words".
 mod letters;
 mod parity;
-mod points;
+mod elements;
 mod spell;
 mod states;
 

@@ -20,7 +20,7 @@ use Rattle.forms.specs.declared.Field.{Field}
 use Rattle.forms.specs.Forms.{fieldsOf, takes, takesAll, fieldBytes, bodyBytes, recordBytes}
 use Rattle.forms.specs.Back.{sizeOf}
 use Rattle.forms.specs.Laid.{Slate, laid, Laid, laid-append}
-use Rattle.scan.specs.Run.{run, runEnd, isByte, spacesFrom, wordEnd, lineEnd}
+use Rattle.text_scan.specs.Run.{run, runEnd, isByte, spacesFrom, wordEnd, lineEnd}
 use Rattle.wording.specs.declared.Numbers as N
 use Rattle.wording.specs.Names.{placeOf}
 use Rattle.wording.specs.Bytes.{wordFrom, nextFrom}

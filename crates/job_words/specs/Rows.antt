@@ -8,7 +8,7 @@ use lib.ListN.{length, take}
 use Rattle.kinds.specs.declared.Kind.{Kind}
 use Rattle.kinds.specs.declared.Kind.the-variants as K
 use Rattle.forms.specs.Forms.{fieldsOf, takesAll, recordBytes}
-use Rattle.scan.specs.Run.{runEnd, isByte, spacesFrom, wordEnd}
+use Rattle.text_scan.specs.Run.{runEnd, isByte, spacesFrom, wordEnd}
 use Rattle.wording.specs.Names.{placeOf}
 use Rattle.wording.specs.Bytes.{wordFrom, nextFrom}
 use Rattle.wording.specs.Numbers.{Listed, numbers, numbersFrom}

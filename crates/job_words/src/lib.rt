@@ -41,7 +41,7 @@ fn bad_line(bytes: &[u8]) -> usize
     let mut at = 0;
     let mut line = 1;
     while at < bytes.len() {
-        let end = scan::line_end(bytes, at);
+        let end = text_scan::line_end(bytes, at);
         if is_bad(&bytes[at..end]) {
             return line;
         }
@@ -58,7 +58,7 @@ fn put_records(out: &mut [u8], bytes: &[u8]) -> usize
     let mut at = 0;
     let mut end_of = 0;
     while at < bytes.len() {
-        let end = scan::line_end(bytes, at);
+        let end = text_scan::line_end(bytes, at);
         end_of = put_row(out, end_of, &bytes[at..end]);
         at = end + 1;
     }

@@ -3,7 +3,7 @@ ghost use Prim.Native.Nat.{_≤_};
 ghost use lib.ListN.{length, take};
 ghost use mathlib.Core.Path.{_≡_};
 ghost use mathlib.Core.Bool.{cond};
-ghost use Rattle.scan.specs.Run.{spacesFrom};
+ghost use Rattle.text_scan.specs.Run.{spacesFrom};
 ghost use Rattle.wording.specs.Numbers.{numbersFrom};
 ghost use Rattle.job_words.specs.Rows.{none, bad, fitted as fittedOf, numbered as numberedOf, diskOf, disk as diskRow, selection as selectionOf, diskNumbers, lastPlace, named as namedOf, wordsRow, rowOf};
 ghost use Rattle.job_words.specs.Laws.{Means};
@@ -14,18 +14,18 @@ use kinds::Kind;
 pub(crate) fn row_of(line: &[u8]) -> Row
     ensures { λ r. ⌜ Means (rowOf (now (line .entry))) r ⌝ }
 {
-    let end = scan::run_end(line, 0, b'#', false);
+    let end = text_scan::run_end(line, 0, b'#', false);
     words_row(&line[..end])
 }
 
 fn words_row(line: &[u8]) -> Row
     ensures { λ r. ⌜ Means (wordsRow (now (line .entry)) (spacesFrom (now (line .entry)) 0)) r ⌝ }
 {
-    let at = scan::spaces_from(line, 0);
+    let at = text_scan::spaces_from(line, 0);
     if line.len() <= at {
         return empty(true);
     }
-    let end = scan::word_end(line, at);
+    let end = text_scan::word_end(line, at);
     let p = wording::place_of(
         &line[at..end],
         b"scale rectangle ellipse operator slice selection disk",
@@ -84,7 +84,7 @@ fn selection(line: &[u8], from: usize) -> Row
     requires { ⌜ from ≤ length (now line) ⌝ }
     ensures { λ r. ⌜ Means (selectionOf (now (line .entry)) from) r ⌝ }
 {
-    let at = scan::spaces_from(line, from);
+    let at = text_scan::spaces_from(line, from);
     let p = last_place(line, at);
     match p {
         0 => fitted(Kind::Selection, [0; 16], 1),
@@ -98,8 +98,8 @@ fn last_place(line: &[u8], at: usize) -> usize
     requires { ⌜ at ≤ length (now line) ⌝ }
     ensures { λ r. ⌜ r ≡ lastPlace (now (line .entry)) at ⌝ }
 {
-    let end = scan::word_end(line, at);
-    if scan::spaces_from(line, end) < line.len() {
+    let end = text_scan::word_end(line, at);
+    if text_scan::spaces_from(line, end) < line.len() {
         return 2;
     }
     wording::place_of(&line[at..end], b"new all")

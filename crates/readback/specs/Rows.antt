@@ -17,7 +17,7 @@ use Rattle.kinds.specs.Kinds.{inTurn, isKnown}
 use Rattle.record.specs.declared.Reading.the-variants.{Refused}
 use Rattle.record.specs.Record.{readingOf}
 use Rattle.forms.specs.Forms.{fieldsOf, takesAll, recordBytes}
-use Rattle.scan.specs.Run.{spacesFrom, wordEnd}
+use Rattle.text_scan.specs.Run.{spacesFrom, wordEnd}
 use Rattle.wording.specs.Names.{placeOf}
 use Rattle.wording.specs.Bytes.{wordFrom}
 use Rattle.wording.specs.Numbers.{Listed, numbers, numbersFrom}

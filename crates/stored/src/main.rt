@@ -15,7 +15,7 @@ fn main() {
 fn list_all(names: &[u8]) {
     let mut at = 0;
     while at < names.len() {
-        let end = scan::line_end(names, at);
+        let end = text_scan::line_end(names, at);
         if !list_one(&names[at..end]) {
             return;
         }

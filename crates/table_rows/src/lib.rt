@@ -2,7 +2,7 @@
 ghost use Prim.Native.Nat.{_<_};
 ghost use lib.ListN.{length};
 ghost use Rattle.io.specs.Counts.{Counts};
-use scan::Number;
+use text_scan::Number;
 
 // How many numbers of a row are kept.
 pub const WIDTH: usize = 144;
@@ -84,7 +84,7 @@ pub fn load(name: &[u8], space: &mut [u8]) -> usize
 
 // The numbers of the row at `at`, whatever stands between them.
 pub fn row_at(s: &[u8], at: usize) -> Row {
-    let end = scan::line_end(s, at);
+    let end = text_scan::line_end(s, at);
     let mut numbers = [0i64; WIDTH];
     let mut count = 0;
     let mut before = [0usize; 4];
@@ -92,7 +92,7 @@ pub fn row_at(s: &[u8], at: usize) -> Row {
     let mut i = at;
     while i < end {
         let mut next = i + 1;
-        if let Number::Value(value, after) = scan::number_at(s, i) {
+        if let Number::Value(value, after) = text_scan::number_at(s, i) {
             if count < WIDTH {
                 numbers[count] = value;
                 count += 1;

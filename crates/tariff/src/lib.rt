@@ -1,6 +1,6 @@
 // What words cost by a tariff, one word or a tray of them: document 02, Tickets 8 and 13.
 mod price;
-mod tray;
+mod tray_words;
 
 ghost use mathlib.Core.Path.{_≡_};
 ghost use Rattle.tariff.specs.Tariff.{numberOf, Small, answered, costOf};
@@ -8,8 +8,8 @@ ghost use Rattle.tariff.specs.Tray.{trayOf};
 use price::Ticks;
 use price::in_range;
 use price::word_ticks;
-use tray::size;
-use tray::total;
+use tray_words::size;
+use tray_words::total;
 
 // The prices of the letters, in thousandths of a tick.
 pub struct Tariff {

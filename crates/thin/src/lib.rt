@@ -2,7 +2,7 @@
 mod ends;
 mod reduce;
 mod steps;
-mod walk;
+mod pair_rows;
 
 pub use ends::first_row;
 pub use ends::past;
@@ -10,8 +10,8 @@ pub use ends::strip;
 pub use reduce::reduced;
 use ring::RootTwo;
 use rows::Band;
-pub use walk::next;
-pub use walk::onward;
+pub use pair_rows::next;
+pub use pair_rows::onward;
 
 // Coordinates of a pair lie within ±10,000; a coordinate's digit is its distance from the lowest.
 pub const BOUND: u64 = 10000;

@@ -7,7 +7,7 @@ use lib.ListN.{length, take, drop}
 use Rattle.hex.specs.Hex.{hexOf, hexWritten}
 use Rattle.hex.specs.declared.Hex.{Hex}
 use Rattle.hex.specs.declared.Hex.the-variants.{Bytes, Bad}
-use Rattle.scan.specs.Run.{spacesFrom, wordEnd}
+use Rattle.text_scan.specs.Run.{spacesFrom, wordEnd}
 use Rattle.wording.specs.Names.{isName}
 
 -- the word at a place that has no space, and the place of the next

@@ -7,7 +7,7 @@ use native.Mathlib.Omega.{arith}
 use lib.Dec.{eqb}
 use lib.ListN.{length, take, drop}
 use borrow.Author.Tests.{eqb-true, eq-eqb}
-use Rattle.scan.specs.Run.{run, isByte}
+use Rattle.text_scan.specs.Run.{run, isByte}
 
 -- the same bytes
 unfoldable pub isName : List ℕ → List ℕ → Bool

@@ -9,9 +9,9 @@ use lib.Signed.{nonNeg}
 use lib.ListN.{length, getD, take}
 use borrow.Author.Tests.{lt-ltb, le-ltb, le-leb, lt-leb}
 use Rattle.words.specs.Meaning.{meaning}
-use Rattle.scan.specs.Run.{spacesFrom}
-use Rattle.scan.specs.Number as scan
-use Rattle.scan.specs.Number.{Read, value, numberAt}
+use Rattle.text_scan.specs.Run.{spacesFrom}
+use Rattle.text_scan.specs.Number as scan
+use Rattle.text_scan.specs.Number.{Read, value, numberAt}
 use Rattle.wording.specs.declared.Numbers.{Numbers}
 use Rattle.wording.specs.declared.Pair.{Pair}
 use Rattle.wording.specs.declared.Pair.the-variants as pair

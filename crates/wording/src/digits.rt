@@ -17,8 +17,8 @@ pub fn last_bytes(line: &[u8], at: usize, out: &mut [u8]) -> Hex
     if line.len() <= at {
         return Hex::Bytes(0);
     }
-    let end = scan::word_end(line, at);
-    if scan::spaces_from(line, end) < line.len() {
+    let end = text_scan::word_end(line, at);
+    if text_scan::spaces_from(line, end) < line.len() {
         return Hex::Bad;
     }
     hex::unhex(&line[at..end], out)
@@ -28,8 +28,8 @@ pub fn last_bytes(line: &[u8], at: usize, out: &mut [u8]) -> Hex
 pub fn bytes_at(line: &[u8], at: usize, out: &mut [u8]) -> Spelled
     ensures { λ r. ⌜ (r .hex ≡ bytesOf (now (line .entry)) at (length (now (out .entry)))) × (r .next ≡ nextFrom (now (line .entry)) at) × (now (out .exit) ≡ bytesWritten (now (line .entry)) at (now (out .entry))) ⌝ }
 {
-    let end = scan::word_end(line, at);
-    let next = scan::spaces_from(line, end);
+    let end = text_scan::word_end(line, at);
+    let next = text_scan::spaces_from(line, end);
     if line.len() <= at {
         return Spelled {
             hex: Hex::Bad,

@@ -5,14 +5,14 @@ ghost use Prim.Native.Nat.{_^_, _≤_};
 ghost use mathlib.Core.Path.{_≡_};
 ghost use mathlib.Core.Bool.{true, false};
 ghost use lib.ListN.{length};
-ghost use Rattle.scan.specs.Number.{readOf, wideReadOf};
+ghost use Rattle.text_scan.specs.Number.{readOf, wideReadOf};
 ghost use Rattle.wording.specs.Names.{placeOf, wordsOf, names};
 ghost use Rattle.wording.specs.Numbers.{listedOf, leadingOf, endsWord, wordAt, leadingFrom, numbersFrom, numbersBefore, pairOf, pairFrom, lengthOf};
 pub use digits::Spelled;
 pub use digits::bytes_at;
 pub use digits::last_bytes;
-use scan::Number;
-use scan::WideNumber;
+use text_scan::Number;
+use text_scan::WideNumber;
 use words::Wide;
 
 // The commands: the places of their names among the names.
@@ -131,7 +131,7 @@ pub fn place_of(word: &[u8], text: &[u8]) -> usize
     let mut at = 0;
     let mut i = 0;
     while at < text.len() {
-        let end = scan::word_end(text, at);
+        let end = text_scan::word_end(text, at);
         if check::same(word, &text[at..end]) {
             return i;
         }
@@ -173,7 +173,7 @@ fn leading(line: &[u8], from: usize, most: usize) -> Numbers
 {
     let mut values = [0i64; 16];
     let mut count = 0;
-    let mut at = scan::spaces_from(line, from);
+    let mut at = text_scan::spaces_from(line, from);
     while at < line.len() {
         if most <= count {
             return counted(values, count, at);
@@ -216,11 +216,11 @@ fn no_numbers() -> Numbers
 fn word_at(line: &[u8], at: usize) -> Number
     ensures { λ r. ⌜ readOf r ≡ wordAt (2 ^ 63) (now (line .entry)) at ⌝ }
 {
-    let n = scan::number_at(line, at);
+    let n = text_scan::number_at(line, at);
     match n {
         Number::Value(v, end) => {
             if ends_word(line, end) {
-                return Number::Value(v, scan::spaces_from(line, end));
+                return Number::Value(v, text_scan::spaces_from(line, end));
             }
             Number::Bad
         }
@@ -232,11 +232,11 @@ fn word_at(line: &[u8], at: usize) -> Number
 fn wide_word_at(line: &[u8], at: usize) -> WideNumber
     ensures { λ r. ⌜ wideReadOf r ≡ wordAt (2 ^ 127) (now (line .entry)) at ⌝ }
 {
-    let n = scan::wide_number_at(line, at);
+    let n = text_scan::wide_number_at(line, at);
     match n {
         WideNumber::Value(v, end) => {
             if ends_word(line, end) {
-                return WideNumber::Value(v, scan::spaces_from(line, end));
+                return WideNumber::Value(v, text_scan::spaces_from(line, end));
             }
             WideNumber::Bad
         }
@@ -258,7 +258,7 @@ fn ends_word(line: &[u8], at: usize) -> bool
 pub fn pair_from(line: &[u8], from: usize) -> Pair
     ensures { λ r. ⌜ pairOf r ≡ pairFrom (now (line .entry)) from ⌝ }
 {
-    let first = wide_word_at(line, scan::spaces_from(line, from));
+    let first = wide_word_at(line, text_scan::spaces_from(line, from));
     let WideNumber::Value(p, at) = first else {
         return Pair::Bad;
     };

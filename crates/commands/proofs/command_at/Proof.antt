@@ -3,7 +3,7 @@ use Prim.Native.Nat.{_≤_}
 use mathlib.Core.Bool.{true, false}
 use native.Mathlib.Omega.{arith}
 use lib.ListN.{length}
-use Rattle.scan.specs.Run.{isByte, runEnd-within}
+use Rattle.text_scan.specs.Run.{isByte, runEnd-within}
 use borrow.Author.Needs.{needs}
 use Rattle.commands.proofs.command_at.Statement.{statement}
 use Rattle.commands.proofs.command_at.Tie as tie

@@ -5,7 +5,7 @@ use native.Mathlib.Nat.{le-of-lt}
 use native.Mathlib.Omega.{arith}
 use borrow.Author.Needs.{needs}
 use lib.ListN.{length}
-use Rattle.scan.specs.Run.{isByte, runEnd-within}
+use Rattle.text_scan.specs.Run.{isByte, runEnd-within}
 use Rattle.stored.proofs.list_all.Statement.{statement}
 use Rattle.stored.proofs.list_all.Tie as tie
 

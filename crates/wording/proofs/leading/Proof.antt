@@ -10,14 +10,14 @@ use lib.Seq.{take-suc-set}
 use mir.Syntax.{w64}
 use mir.Val.{SFits}
 use mir.Facts.{toZ-ofZ}
-use Rattle.scan.specs.Number.{value as number, readOf}
+use Rattle.text_scan.specs.Number.{value as number, readOf}
 use Rattle.wording.specs.Numbers.{wordAt, leadingWith, leadingFrom, leading-of, leading-bad, leading-end, leading-full, leading-none, leading-more}
 use borrow.Author.Needs.{needs}
 use Rattle.wording.proofs.leading.Statement.{statement}
 use Rattle.wording.proofs.leading.Tie as tie
 use Rattle.wording.proofs.leading.Reads as reads
 use Rattle.wording.proofs.leading.Lts as lts
-use Rattle.scan.proofs.spaces_from.Reads as spaces-from-reads
+use Rattle.text_scan.proofs.spaces_from.Reads as spaces-from-reads
 use Rattle.wording.proofs.counted.Reads as counted-reads
 use Rattle.wording.proofs.no_numbers.Reads as no-numbers-reads
 use Rattle.wording.proofs.word_at.Reads as word-at-reads

@@ -5,8 +5,8 @@ use mathlib.Core.List.{List}
 use lib.IntN.{ℤ}
 use borrow.Author.Needs.{needs}
 use Rattle.words.specs.Meaning.{meaning}
-use Rattle.scan.specs.Run.{spacesFrom}
-use Rattle.scan.specs.Number.{value as number, wideReadOf}
+use Rattle.text_scan.specs.Run.{spacesFrom}
+use Rattle.text_scan.specs.Number.{value as number, wideReadOf}
 use Rattle.wording.specs.Numbers.{wordAt, pair-none, pair-one, pair-more, pair-both}
 use Rattle.wording.proofs.pair_from.Statement.{statement}
 use Rattle.wording.proofs.pair_from.Tie as tie

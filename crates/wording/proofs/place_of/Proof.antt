@@ -8,7 +8,7 @@ use native.Mathlib.Omega.{arith}
 use lib.ListN.{length, take, drop, length-drop, drop-of-length-le}
 use lib.Seq.{drop-drop}
 use borrow.Author.Needs.{needs}
-use Rattle.scan.specs.Run.{isByte, runEnd, runEnd-within}
+use Rattle.text_scan.specs.Run.{isByte, runEnd, runEnd-within}
 use Rattle.wording.specs.Names.{isName, placeOf, wordsOf, front, name-told, front-take, place-here, place-later}
 use Rattle.wording.proofs.place_of.Statement.{statement}
 use Rattle.wording.proofs.place_of.Tie as tie

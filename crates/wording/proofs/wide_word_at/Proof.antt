@@ -5,7 +5,7 @@ use mathlib.Core.List.{List}
 use lib.IntN.{ℤ}
 use Rattle.words.specs.Meaning.{meaning}
 use borrow.Author.Needs.{needs}
-use Rattle.scan.specs.Number.{value as number, wideReadOf, numberAt}
+use Rattle.text_scan.specs.Number.{value as number, wideReadOf, numberAt}
 use Rattle.wording.specs.Numbers.{word-none, word-run-on, word-whole}
 use Rattle.wording.proofs.wide_word_at.Statement.{statement}
 use Rattle.wording.proofs.wide_word_at.Tie as tie

@@ -7,7 +7,7 @@ use mir.Syntax.{w64}
 use mir.Val.{SFits}
 use mir.Facts.{toZ-ofZ}
 use borrow.Author.Needs.{needs}
-use Rattle.scan.specs.Number.{value as number, readOf, numberAt}
+use Rattle.text_scan.specs.Number.{value as number, readOf, numberAt}
 use Rattle.wording.specs.Numbers.{word-none, word-run-on, word-whole}
 use Rattle.wording.proofs.word_at.Statement.{statement}
 use Rattle.wording.proofs.word_at.Tie as tie

@@ -5,7 +5,7 @@ use mathlib.Core.List.{List}
 use mathlib.Core.Bool.{true, false}
 use lib.ListN.{length, take, drop}
 use native.Mathlib.Nat.{le-of-lt}
-use Rattle.scan.specs.Run.{isByte, spacesFrom, wordEnd, runEnd-within}
+use Rattle.text_scan.specs.Run.{isByte, spacesFrom, wordEnd, runEnd-within}
 use Rattle.wording.specs.Names.{placeOf, wordsOf}
 use Rattle.job_words.specs.Rows.{choices, lastPlace}
 use Rattle.job_words.specs.Laws.{last-not, last-word}

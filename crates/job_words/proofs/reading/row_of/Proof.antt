@@ -2,7 +2,7 @@ use native.Mathlib.Omega.{arith}
 use mathlib.Core.Path.{_≡_, refl, sym, ap, _∙_}
 use mathlib.Core.Bool.{false}
 use lib.Seq.{length-take-le}
-use Rattle.scan.specs.Run.{isByte, runEnd-within}
+use Rattle.text_scan.specs.Run.{isByte, runEnd-within}
 use Rattle.job_words.specs.Rows.{bare, rowOf}
 use borrow.Author.Needs.{needs}
 use Rattle.job_words.proofs.reading.row_of.Statement.{statement}

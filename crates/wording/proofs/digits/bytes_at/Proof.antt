@@ -7,15 +7,15 @@ use native.Mathlib.Nat.{le-of-lt}
 use native.Mathlib.Omega.{arith}
 use lib.ListN.{length}
 use borrow.Author.Tests.{lt-ltb, le-ltb}
-use Rattle.scan.specs.Run.{isByte, spacesFrom, runEnd-within}
+use Rattle.text_scan.specs.Run.{isByte, spacesFrom, runEnd-within}
 use Rattle.wording.specs.Bytes.{nextFrom, bytesOf, bytesWritten}
 use borrow.Author.Needs.{needs}
 use Rattle.wording.proofs.digits.bytes_at.Statement.{statement}
 use Rattle.wording.proofs.digits.bytes_at.Tie as tie
 use Rattle.wording.proofs.digits.bytes_at.Reads as reads
 use Rattle.wording.proofs.digits.bytes_at.Lts as lts
-use Rattle.scan.proofs.spaces_from.Reads as spaces-from-reads
-use Rattle.scan.proofs.word_end.Reads as word-end-reads
+use Rattle.text_scan.proofs.spaces_from.Reads as spaces-from-reads
+use Rattle.text_scan.proofs.word_end.Reads as word-end-reads
 use Rattle.wording.proofs.digits.dashed.Reads as dashed-reads
 
 module _ (c : tie.After-spaces-from) where

@@ -7,7 +7,7 @@ use native.Mathlib.Nat.{le-of-lt}
 use native.Mathlib.Omega.{arith}
 use lib.ListN.{length}
 use borrow.Author.Tests.{lt-ltb, le-ltb}
-use Rattle.scan.specs.Run.{isByte, spacesFrom, runEnd-within}
+use Rattle.text_scan.specs.Run.{isByte, spacesFrom, runEnd-within}
 use Rattle.wording.specs.Bytes.{nextFrom, lastOf, lastWritten}
 use borrow.Author.Needs.{needs}
 use Rattle.wording.proofs.digits.last_bytes.Statement.{statement}
@@ -15,8 +15,8 @@ use Rattle.wording.proofs.digits.last_bytes.Tie as tie
 use Rattle.wording.proofs.digits.last_bytes.Reads as reads
 use Rattle.wording.proofs.digits.last_bytes.Lts as lts
 use Rattle.hex.proofs.unhex.Reads as unhex-reads
-use Rattle.scan.proofs.spaces_from.Reads as spaces-from-reads
-use Rattle.scan.proofs.word_end.Reads as word-end-reads
+use Rattle.text_scan.proofs.spaces_from.Reads as spaces-from-reads
+use Rattle.text_scan.proofs.word_end.Reads as word-end-reads
 
 module _ (c : tie.After-spaces-from) where
   abbrev some : tie.Else1
