@@ -1,7 +1,7 @@
 // Gate words: SPEC, "Gate words".
+mod elements;
 mod letters;
 mod parity;
-mod elements;
 mod spell;
 mod states;
 

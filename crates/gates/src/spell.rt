@@ -8,13 +8,13 @@ ghost use Rattle.spelling.specs.Word.{syllables, without-T, bareAtZero, body, w
 ghost use Rattle.gates.specs.Written.{Adds, Writes};
 ghost use Rattle.gates.specs.Going.{Going};
 ghost use Rattle.gates.specs.Start.{lead, start};
+use crate::elements::over_omega;
+use crate::elements::times_omega;
 use crate::letters::syllable;
 use crate::parity::bare;
 use crate::parity::odd;
 use crate::parity::parities;
 use crate::parity::plain;
-use crate::elements::over_omega;
-use crate::elements::times_omega;
 use crate::states::next;
 use crate::states::reduce;
 use clifford::Word;

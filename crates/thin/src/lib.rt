@@ -1,17 +1,17 @@
 // The line problem of two intervals by the steps of Algorithm 2.2 (the Note) in its order: shift by α₀, scale by a power of λ = 1 + √2, then a and b. SPEC, "Line problem".
 mod ends;
+mod pair_rows;
 mod reduce;
 mod steps;
-mod pair_rows;
 
 pub use ends::first_row;
 pub use ends::past;
 pub use ends::strip;
+pub use pair_rows::next;
+pub use pair_rows::onward;
 pub use reduce::reduced;
 use ring::RootTwo;
 use rows::Band;
-pub use pair_rows::next;
-pub use pair_rows::onward;
 
 // Coordinates of a pair lie within ±10,000; a coordinate's digit is its distance from the lowest.
 pub const BOUND: u64 = 10000;
