@@ -1,6 +1,6 @@
 // The walk of a tray: SPEC, "Trays". The lists of its regions' jobs, each in point order, are merged into one; a point comes once, with the regions that list it.
 ghost use mathlib.Core.Path.{_≡_};
-ghost use Prim.Native.Nat.{_+_, _*_, _/_, _≤_, _<_};
+ghost use Prim.Native.Nat.{_+_, _*_, _/_, _≤_, _<_, min};
 ghost use lib.IntN.{pos};
 ghost use lib.ListN.{length, set};
 ghost use lib.Seq.{sets};
@@ -14,13 +14,11 @@ ghost use Rattle.trays.specs.Tray.{anyAt, fiveOf, left};
 mod lanes;
 mod order;
 
+use lanes::Mark;
 use ring::Point;
 use trays::Tray;
 use walk::Handed;
 use walk::Spot;
-
-// So many points of each region are queued at first, at most.
-const FIRST: usize = 4;
 
 // As many of the points that the tray lists from a spot on as the slice has space for, five numbers a point.
 pub fn hand_out(t: Tray, from: Spot, out: &mut [i32]) -> Handed
@@ -40,20 +38,47 @@ fn deal(t: Tray, from: Point, out: &mut [i32]) -> Handed
     ensures { λ r. ⌜ Gave (fiveOf t) 5 (left t (rankOf from)) (now (out .entry)) (length (now (out .entry)) / 5) (r .count) (now (out .exit)) (spotOf (r .spot)) ⌝ }
 {
     let space = out.len() / 5;
-    let n = least(space, FIRST - 1) + 1;
+    let size = regions(t.count);
+    let sources = lanes::open(t);
     let mut queue = lanes::queue();
-    let o = lanes::open(t, n, from, &mut queue);
-    let mut lanes = o.lanes;
-    let mut f = o.spot;
+    let mut at = [0usize; 8];
+    let mut end = [0usize; 8];
+    let start = [Mark {
+        spot: Spot::At(from),
+    }; 8];
+    let mut after = lanes::refill(
+        sources,
+        start,
+        size,
+        space + 1,
+        &mut queue,
+        &mut at,
+        &mut end,
+    );
+    let mut f = lanes::nearest(&queue, &at, &end, size);
     let mut k = 0;
     while k < space {
         match f {
             Spot::At(v) => {
-                let s = lanes::advance(t, lanes, v, &mut queue);
+                let n = regions(t.count);
+                let s = lanes::advance(&queue, &mut at, &end, n, v);
                 put_five(out, 5 * k, v, s.mask);
                 k += 1;
-                lanes = s.lanes;
                 f = s.spot;
+                if s.spent {
+                    let room = space - k + 1;
+                    let marks = lanes::refill(
+                        sources,
+                        after,
+                        n,
+                        room,
+                        &mut queue,
+                        &mut at,
+                        &mut end,
+                    );
+                    after = marks;
+                    f = lanes::nearest(&queue, &at, &end, n);
+                }
             }
             Spot::Ended => {
                 break;
@@ -63,10 +88,11 @@ fn deal(t: Tray, from: Point, out: &mut [i32]) -> Handed
     Handed { count: k, spot: f }
 }
 
-fn least(a: usize, b: usize) -> usize
-    ensures { λ r. ⌜ (r ≤ b) × (r ≤ a) ⌝ }
+// So many of a tray's regions count.
+fn regions(count: usize) -> usize
+    ensures { λ r. ⌜ r ≡ min count 8 ⌝ }
 {
-    if a < b { a } else { b }
+    if count < 8 { count } else { 8 }
 }
 
 // A point and its regions written to five numbers of the slice, from k on.

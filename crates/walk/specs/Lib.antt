@@ -1,4 +1,5 @@
--- `Row` has listed points of a row; `Hand` where a hand-out stands; `Ends` where rows end and begin.
+-- `Prepared` has jobs ready for hand-outs; `Row` has listed points of a row; `Hand` where a hand-out stands; `Ends` where rows end and begin.
+pub mod Prepared
 pub mod Row
 pub mod Hand
 pub mod Ends

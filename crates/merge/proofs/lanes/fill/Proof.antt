@@ -1,5 +1,5 @@
 use mathlib.Core.List.{List, _++_}
-use mathlib.Core.Path.{_≡_, refl, ap, subst, _∙_}
+use mathlib.Core.Path.{_≡_, refl, subst, _∙_}
 use Prim.Native.Nat.{ℕ, _+_, _*_, _-_, _/_, _≤_}
 use native.Mathlib.Omega.{arith}
 use borrow.Rule.Slice.PartMut.{postOf, post-is}
@@ -7,23 +7,22 @@ use borrow.Author.Needs.{needs}
 use lib.Seq.{length-take-le}
 use lib.ListN.{length, take, drop, length-drop}
 use lib.IntN.{ℤ}
-use Rattle.merge.specs.Lane.{leftOf, Elsewhere, filled-some, filled-none, filled-elsewhere}
-use Rattle.trays.specs.Tray.{jobAt}
+use Rattle.merge.specs.Lane.{leftOf, Elsewhere, filled-content, filled-few, filled-none, filled-elsewhere}
 use Rattle.lists.specs.Walk.{numbersOf, spotOf}
-use Rattle.lists.specs.declared.Spot.the-variants as S
 use Rattle.ranks.specs.Handed.{Gave}
 use Rattle.ranks.specs.Rest.{Place}
 use Rattle.region.specs.declared.Job.{Job}
+use Rattle.walk.specs.Prepared.{jobOf}
 use Rattle.merge.proofs.lanes.fill.Statement.{statement}
 use Rattle.merge.proofs.lanes.fill.Tie as tie
 
 -- what the walk wrote to the lane's part of the queue
-module _ (h : tie.After-hand-out) where
+module _ (h : tie.After-hand-out-of) where
   abbrev start : tie.Start
-  start = h .before .before .before
+  start = h .before .before
 
   abbrev job : Job
-  job = jobAt (start .args .t) (start .args .j)
+  job = jobOf (start .args .s .walk)
 
   abbrev from : Place
   from = spotOf (start .args .from)
@@ -44,7 +43,7 @@ module _ (h : tie.After-hand-out) where
   old = take (end - place) (drop place queue)
 
   abbrev new : List ℤ
-  new = h .hand-out .last .1 .1 .0
+  new = h .hand-out-of .last .1 .1 .0
 
   abbrev front : List ℤ
   front = take place queue
@@ -61,17 +60,16 @@ module _ (h : tie.After-hand-out) where
   old-long : length old ≡ 4 * count-of
   old-long = let l = long in length-take-le (end - place) (drop place queue) (omega (arith, length-drop place queue)) ∙ omega arith
 
-  gave : Gave numbersOf 4 (leftOf job from) old count-of (h .hand-out .result .count) new (spotOf (h .hand-out .result .spot))
+  gave : Gave numbersOf 4 (leftOf job from) old count-of (h .hand-out-of .result .count) new (spotOf (h .hand-out-of .result .spot))
   gave =
       let sized : length old / 4 ≡ count-of = let l = old-long in omega arith in
-      subst (λ (m : ℕ). Gave numbersOf 4 (leftOf job from) old m (h .hand-out .result .count) new (spotOf (h .hand-out .result .spot))) sized
-      (subst (λ (i : Job). Gave numbersOf 4 (leftOf i from) old (length old / 4) (h .hand-out .result .count) new (spotOf (h .hand-out .result .spot))) (h .before .before .job .ensures) (h .hand-out .ensures))
+      subst (λ (m : ℕ). Gave numbersOf 4 (leftOf job from) old m (h .hand-out-of .result .count) new (spotOf (h .hand-out-of .result .spot))) sized (h .hand-out-of .ensures)
 
   elsewhere : Elsewhere (start .args .j) queue (front ++ (new ++ behind))
   elsewhere =
       let p = start .pre in
       let same : length new ≡ length old = search needs in
-      filled-elsewhere job from count-of place old new front behind (h .hand-out .result .count) (spotOf (h .hand-out .result .spot)) gave front-long (start .args .j) queue refl (p .1) (same ∙ old-long) refl
+      filled-elsewhere job from count-of place old new front behind (h .hand-out-of .result .count) (spotOf (h .hand-out-of .result .spot)) gave front-long (start .args .j) queue refl (p .2) (same ∙ old-long) refl
       (post-is place end queue (omega arith)) long
 
 mul-start : tie.Need-mul-start
@@ -83,46 +81,34 @@ mul-end c = search needs
 add-end : tie.Need-add-end
 add-end c = search needs
 
-job-requires : tie.Need-job-requires
-job-requires c κs = search needs
+mul-hand-out-of : tie.Need-mul-hand-out-of
+mul-hand-out-of c = search needs
 
-mul-hand-out : tie.Need-mul-hand-out
-mul-hand-out c = search needs
+sub-hand-out-of : tie.Need-sub-hand-out-of
+sub-hand-out-of c = search needs
 
-sub-hand-out : tie.Need-sub-hand-out
-sub-hand-out c = search needs
+part-hand-out-of-start : tie.Need-part-hand-out-of-start
+part-hand-out-of-start c = search needs
 
-part-hand-out-start : tie.Need-part-hand-out-start
-part-hand-out-start c = search needs
+part-hand-out-of-end : tie.Need-part-hand-out-of-end
+part-hand-out-of-end c = search needs
 
-part-hand-out-end : tie.Need-part-hand-out-end
-part-hand-out-end c = search needs
-
-hand-out-requires : tie.Need-hand-out-requires
-hand-out-requires c κs = search needs
+hand-out-of-requires : tie.Need-hand-out-of-requires
+hand-out-of-requires c κs = c .before .pre .0
 
 same-length : tie.Need-same-length
 same-length c = search needs
 
 returns : tie.Need-returns
 returns c =
-    let h = c .before .before in
+    let h = c .before in
     let s = start h in
-    let p = s .pre in
-    (filled-none (job h) (from h) (count-of h) (place h) (old h) (new h) (front h) (behind h) (h .hand-out .result .count) (spotOf (h .hand-out .result .spot)) (gave h) (front-long h) _ (c .if1 .taken) (p .0) refl, elsewhere h)
-
-point-at-requires : tie.Need-point-at-requires
-point-at-requires c κs = search needs
-
-same-length-2 : tie.Need-same-length-2
-same-length-2 c = search needs
-
-returns-2 : tie.Need-returns-2
-returns-2 c =
-    let h = c .before .before .before .before in
-    let s = start h in
-    let e = c .before .before .if1 .left in
-    (filled-some (job h) (from h) (count-of h) (place h) (old h) (new h) (front h) (behind h) (h .hand-out .result .count) (spotOf (h .hand-out .result .spot)) (gave h) (front-long h) _ (s .pre .1) (omega arith) refl refl refl (ap S.At (c .point-at .ensures)), elsewhere h)
+    let p = s .pre in (
+      filled-content (job h) (from h) (count-of h) (place h) (old h) (new h) (front h) (behind h) (h .hand-out-of .result .count) (spotOf (h .hand-out-of .result .spot)) (gave h) (front-long h) (s .args .j) refl,
+      filled-few (job h) (from h) (count-of h) (place h) (old h) (new h) (front h) (behind h) (h .hand-out-of .result .count) (spotOf (h .hand-out-of .result .spot)) (gave h) (front-long h) (p .2),
+      filled-none (job h) (from h) (count-of h) (place h) (old h) (new h) (front h) (behind h) (h .hand-out-of .result .count) (spotOf (h .hand-out-of .result .spot)) (gave h) (front-long h) (p .1),
+      elsewhere h,
+    )
 
 pub fill-spec : {M : Type 1} → statement M
 fill-spec =
@@ -131,14 +117,10 @@ fill-spec =
     mul-start
     mul-end
     add-end
-    job-requires
-    mul-hand-out
-    sub-hand-out
-    part-hand-out-start
-    part-hand-out-end
-    hand-out-requires
+    mul-hand-out-of
+    sub-hand-out-of
+    part-hand-out-of-start
+    part-hand-out-of-end
+    hand-out-of-requires
     same-length
-    returns
-    point-at-requires
-    same-length-2
-    returns-2)
+    returns)
