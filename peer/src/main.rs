@@ -21,8 +21,8 @@ mod tests;
 mod timing;
 mod tray;
 mod walk;
-mod words;
 mod wording;
+mod words;
 
 use std::env;
 use std::error::Error;
@@ -356,9 +356,7 @@ fn all_input() -> io::Result<Vec<u8>> {
 fn pattern(input: &[u8], answer: &[u8]) -> Outcome {
     let found = match job_of(input) {
         Err(instead) => Err(format!("{instead}\n")),
-        Ok(job) => {
-            entry::shortest(&job).ok_or_else(|| format!("refused 14 at {}\n", input.len()))
-        }
+        Ok(job) => entry::shortest(&job).ok_or_else(|| format!("refused 14 at {}\n", input.len())),
     };
     let agreed = match found {
         Err(instead) => answer == instead.as_bytes(),

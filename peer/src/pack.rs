@@ -98,8 +98,18 @@ pub fn text(seed: u64) -> Vec<u8> {
 }
 
 fn line(random: &mut Random) -> Vec<u8> {
-    let names =
-        ["scale", "selection", "rectangle", "ellipse", "disk", "slice", "operator", "", "#", "scal"];
+    let names = [
+        "scale",
+        "selection",
+        "rectangle",
+        "ellipse",
+        "disk",
+        "slice",
+        "operator",
+        "",
+        "#",
+        "scal",
+    ];
     let counts = [1, 1, 5, 7, 1, 4, 8, 0, 2, 1];
     let i = if random.once_in(20) { random.index(10) } else { random.index(9) };
     let mut line = " ".repeat(random.pick(&[0, 0, 0, 2])).into_bytes();

@@ -173,8 +173,7 @@ fn stateless(command: &str, rest: &[&str]) -> Option<Answer> {
 
 fn priced(rest: &[&str]) -> Option<(Tariff, u64, Vec<u8>)> {
     let (numbers, behind) = rest.split_at_checked(5)?;
-    let numbers: Vec<u32> =
-        numbers.iter().map(|word| word.parse().ok()).collect::<Option<_>>()?;
+    let numbers: Vec<u32> = numbers.iter().map(|word| word.parse().ok()).collect::<Option<_>>()?;
     let tariff = [numbers[0], numbers[1], numbers[2], numbers[3]];
     Some((tariff, numbers[4].into(), last(behind)?))
 }
@@ -203,7 +202,11 @@ fn hex(bytes: &[u8]) -> String {
 
 /// With a space before it, if there is anything.
 fn shown(text: String) -> String {
-    if text.is_empty() { text } else { format!(" {text}") }
+    if text.is_empty() {
+        text
+    } else {
+        format!(" {text}")
+    }
 }
 
 /// Solutions lie in this range, and membership is exact in it.

@@ -4,13 +4,14 @@ use std::ops::ControlFlow;
 
 use crate::bench;
 use crate::entry;
+use crate::files;
 use crate::generate::Generator;
 use crate::job::{self, Job, Region, Shape};
 use crate::member::{Membership, Point};
 use crate::pack;
 use crate::root2::{floor_root2, sign};
-use crate::walk::Walk;
 use crate::t_count;
+use crate::walk::Walk;
 
 fn solutions(job: &Job) -> Vec<Point> {
     let mut found = Vec::new();
@@ -152,10 +153,25 @@ fn loops_against_a_cube() {
 
 #[test]
 fn packed() {
-    let bytes = pack::pack("# unit disks\nscale 0\nellipse 1 0 0 1 0 1 1\nellipse 1 0 0 1 0 1 1\n");
+    let text = b"# unit disks\nscale 0  # the scale\n\nellipse 1 0 0 1 0 1 1\ndisk 1\n";
     let ellipse = [3, 1, 0, 0, 0, 0, 0, 0, 0, 0, 0, 1, 0, 0, 0, 1, 0, 1, 0, 0, 0];
-    assert_eq!(bytes.unwrap(), [&[1, 0], &ellipse[..], &ellipse[..]].concat());
-    assert!(pack::pack("scale 0 1").is_err());
+    assert_eq!(pack::pack(text), [&[1, 0], &ellipse[..], &ellipse[..]].concat());
+    assert_eq!(pack::pack(b"selection all\nselection 0"), [6, 1, 6, 0]);
+    assert_eq!(pack::pack(b"scale 0\nscale 0 1\n"), b"bad line 2\n");
+    assert_eq!(pack::pack(b"scale 256"), b"bad line 1\n");
+}
+
+#[test]
+fn files() {
+    let file = files::qasm(b"of U\nword HTWS\n");
+    assert_eq!(
+        file,
+        b"OPENQASM 2.0;\ninclude \"qelib1.inc\";\nqreg q[1];\ns q[0];\nt q[0];\nh q[0];\n"
+    );
+    assert_eq!(files::unqasm(&file), b"HTS\n");
+    assert_eq!(files::unqasm(&files::qasm(b"-\n")), b"-\n");
+    assert_eq!(files::qasm(b"word HX"), b"refused 15 at 5\n");
+    assert_eq!(files::unqasm(b"h q[0];\n"), b"refused 17 at 0\n");
 }
 
 #[test]

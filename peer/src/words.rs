@@ -26,7 +26,11 @@ pub fn text(word: &[u8], room: usize) -> Result<Vec<u8>, u8> {
     let lines: Vec<Option<&str>> =
         word.iter().rev().map(|&letter| gate(letter)).collect::<Result<_, _>>()?;
     let text: String = lines.into_iter().flatten().collect();
-    if text.len() > room { Err(13) } else { Ok(text.into_bytes()) }
+    if text.len() > room {
+        Err(13)
+    } else {
+        Ok(text.into_bytes())
+    }
 }
 
 /// The word of a text that has so much room.
@@ -44,7 +48,11 @@ pub fn word(text: &[u8], room: usize) -> Result<Vec<u8>, u8> {
         rest = &rest[end + 1..];
     }
     word.reverse();
-    if word.len() > room { Err(13) } else { Ok(word) }
+    if word.len() > room {
+        Err(13)
+    } else {
+        Ok(word)
+    }
 }
 
 /// The prices of H, S, T and W.
@@ -122,7 +130,11 @@ pub fn sheet(reader: u64, bytes: &[u8]) -> Result<Seen, u8> {
         let e = sheet.u.exponent(k.into());
         return Ok(Seen::Crew((2 * u64::from(e)).saturating_sub(2), sheet.ticks));
     }
-    if solves(k.into(), sheet.u, sheet.t) { Ok(Seen::Desk(sheet)) } else { Err(12) }
+    if solves(k.into(), sheet.u, sheet.t) {
+        Ok(Seen::Desk(sheet))
+    } else {
+        Err(12)
+    }
 }
 
 /// The bytes of a sheet that has so much room.
