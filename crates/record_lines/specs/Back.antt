@@ -12,8 +12,8 @@ use lib.Seq.{getD-at, drop-at}
 use borrow.Author.Tests.{lt-ltb, le-ltb}
 use Rattle.text.specs.Decimal.{decimal, signedDecimal}
 use Rattle.text.proofs.Digits.{decimal-some}
-use Rattle.scan.specs.Run.{run, runEnd, isByte, spacesFrom}
-use Rattle.scan.specs.Number.{value, isDigit}
+use Rattle.text_scan.specs.Run.{run, runEnd, isByte, spacesFrom}
+use Rattle.text_scan.specs.Number.{value, isDigit}
 use Rattle.wording.specs.Numbers.{leading, numbers, endsWord, wordAt, leadingWith, leadingFrom, numbersFrom, leading-end, leading-more}
 use Rattle.record_lines.specs.Digits.{All, Stops, run-all, digits-all, digit-not, Small, number-back}
 use Rattle.record_lines.specs.Lines.{numbersText}

@@ -12,7 +12,7 @@ use borrow.Author.Tests.{le-ltb}
 use Rattle.kinds.specs.declared.Kind.{Kind}
 use Rattle.kinds.specs.declared.Kind.the-variants as K
 use Rattle.forms.specs.Forms.{fieldsOf, takesAll, recordBytes}
-use Rattle.scan.specs.Run.{isByte}
+use Rattle.text_scan.specs.Run.{isByte}
 use Rattle.input_lines.specs.Lines.{linesWith}
 use Rattle.job_words.specs.Rows.{Row, said, rowOf, rowsOf, firstBad, bytesOf, jobOf}
 use Rattle.job_words.specs.Laws.{joined-singles}
