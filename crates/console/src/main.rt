@@ -22,6 +22,11 @@ struct Told {
 }
 
 fn main() {
+    if usage::told(
+        b"usage: console < LINES\nAn answer for each line: a call of the library by name, its numbers and its bytes.\n",
+    ) {
+        return;
+    }
     let mut line = line_buffer();
     let mut chunk = io::large_buffer();
     let mut out = commands::room();
