@@ -73,7 +73,7 @@ fn put_point(out: &mut [u8], at: usize, head: &[u8], v: Point, k: u8) -> usize
     let e = v.exponent(k);
     let m = ring::pulse_count(e);
     let d = text::put_bytes(out, at, head);
-    let f = put_coordinate(out, d, v.d);
+    let f = put_last(out, d, v.d);
     let g = put_short(out, f, e as u64, b' ');
     put_short(out, g, m, b'\n')
 }
@@ -86,11 +86,46 @@ fn put_coordinate(out: &mut [u8], at: usize, z: i32) -> usize
     text::put_byte(out, end, b' ')
 }
 
+// The same, sooner for a number of one or two digits.
+fn put_last(out: &mut [u8], at: usize, z: i32) -> usize
+    requires { ⌜ at + 12 ≤ length (now out) ⌝ }
+    ensures { λ r. ⌜ Appended (now (out .entry)) at (coordinateText z) (now (out .exit)) r × (r ≤ at + 12) ⌝ }
+{
+    let n = integers::abs(z as i64);
+    if 99 < n {
+        return put_coordinate(out, at, z);
+    }
+    if z < 0 {
+        let digits = text::put_byte(out, at, b'-');
+        return put_small(out, digits, n as u8, b' ');
+    }
+    put_small(out, at, n as u8, b' ')
+}
+
+// A number of one or two digits and a mark.
+fn put_small(out: &mut [u8], at: usize, n: u8, mark: u8) -> usize
+    requires { ⌜ (n < 100) × (at + 3 ≤ length (now out)) ⌝ }
+    ensures { λ r. ⌜ Appended (now (out .entry)) at (countText n mark) (now (out .exit)) r × (r ≤ at + 3) ⌝ }
+{
+    if n < 10 {
+        out[at] = 48 + n;
+        out[at + 1] = mark;
+        return at + 2;
+    }
+    out[at] = 48 + n / 10;
+    out[at + 1] = 48 + n % 10;
+    out[at + 2] = mark;
+    at + 3
+}
+
 // A number of at most ten digits and a mark.
 fn put_short(out: &mut [u8], at: usize, n: u64, mark: u8) -> usize
     requires { ⌜ (n < 10000000000) × (at + 11 ≤ length (now out)) ⌝ }
     ensures { λ r. ⌜ Appended (now (out .entry)) at (countText n mark) (now (out .exit)) r × (r ≤ at + 11) ⌝ }
 {
+    if n < 100 {
+        return put_small(out, at, n as u8, mark);
+    }
     let end = text::put_unsigned(out, at, n);
     text::put_byte(out, end, mark)
 }

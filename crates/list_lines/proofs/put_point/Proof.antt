@@ -45,7 +45,7 @@ module _ (h : tie.After-put-bytes) where
 
 -- what stands after the five numbers before the last
 module _ (c : tie.After-put-short) where
-  abbrev z : tie.After-put-coordinate
+  abbrev z : tie.After-put-last
   z = c .before .before .before .before
 
   abbrev h : tie.After-put-bytes
@@ -59,15 +59,15 @@ module _ (c : tie.After-put-short) where
       let at = start h .args .at in
       let hd : SFits w32 (v h .d) = search needs in
       let m1 = h .put-bytes .last .0 in
-      let m2 = z .put-coordinate .last .0 in
-      let a2 = append-more (xs h) at (headText (v h)) (coordinateText (v h .d)) m1 m2 (h .put-bytes .result) (z .put-coordinate .result) (begun h) (rw (toZ-ofZ hd) at (z .put-coordinate .ensures .0)) in
-      append-more (xs h) at (headText (v h) ++ coordinateText (v h .d)) (countText (counted h .before .exponent .result) 32) m2 (c .put-short .last .0) (z .put-coordinate .result) (c .put-short .result) a2 (c .put-short .ensures .0)
+      let m2 = z .put-last .last .0 in
+      let a2 = append-more (xs h) at (headText (v h)) (coordinateText (v h .d)) m1 m2 (h .put-bytes .result) (z .put-last .result) (begun h) (rw (toZ-ofZ hd) at (z .put-last .ensures .0)) in
+      append-more (xs h) at (headText (v h) ++ coordinateText (v h .d)) (countText (counted h .before .exponent .result) 32) m2 (c .put-short .last .0) (z .put-last .result) (c .put-short .result) a2 (c .put-short .ensures .0)
 
   short : c .put-short .result ≤ start h .args .at + 59
   short =
       let l = short-head h in
       let b1 = begun h .end in
-      let b2 = z .put-coordinate .ensures .1 in
+      let b2 = z .put-last .ensures .1 in
       let b3 = c .put-short .ensures .1 in
       omega arith
 
@@ -80,8 +80,8 @@ pulse-count-requires c κs = search needs
 put-bytes-requires : tie.Need-put-bytes-requires
 put-bytes-requires c κs = search needs
 
-put-coordinate-requires : tie.Need-put-coordinate-requires
-put-coordinate-requires c κs =
+put-last-requires : tie.Need-put-last-requires
+put-last-requires c κs =
     let h = c .before .before .before .before in
     let l = short-head h in
     let b = begun h in
@@ -100,8 +100,8 @@ put-short-requires c κs =
     let l = short-head h in
     let e = begun h .end in
     let f = begun h .same in
-    let b = z .put-coordinate .ensures .1 in
-    let s = z .put-coordinate .ensures .0 .same in
+    let b = z .put-last .ensures .1 in
+    let s = z .put-last .ensures .0 .same in
     let r = start h .pre .0 in
     let x : Fits w32 (counted h .before .exponent .result) = search needs in
     let y = x .fits in
@@ -145,7 +145,7 @@ put-point-spec =
     exponent-requires
     pulse-count-requires
     put-bytes-requires
-    put-coordinate-requires
+    put-last-requires
     cast-put-short
     put-short-requires
     put-short-requires-2
