@@ -50,7 +50,7 @@ fn deal(t: Tray, from: Point, out: &mut [i32]) -> Handed
         sources,
         start,
         size,
-        space + 1,
+        space / 2 + 1,
         &mut queue,
         &mut at,
         &mut end,
