@@ -72,7 +72,7 @@ sized K.Slice = (omega arith, (omega arith, (omega arith, (omega arith, tt))))
 sized K.Selection = (omega arith, tt)
 sized K.Unknown = tt
 
-size-kind : (k : Kind) → sizeOf (fieldsOf k) ≡ bodyLength k
+pub size-kind : (k : Kind) → sizeOf (fieldsOf k) ≡ bodyLength k
 unfolding sizeOf fieldsOf
 size-kind K.Scale = refl
 size-kind K.Rectangle = refl
