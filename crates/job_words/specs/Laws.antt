@@ -27,11 +27,10 @@ use Rattle.wording.specs.Bytes.{wordFrom, nextFrom}
 use Rattle.wording.specs.Numbers.{Listed, numbers, numbersFrom, listedOf}
 use Rattle.wording.specs.Numbers as W
 use Rattle.input_lines.specs.Lines.{lastLine, linesWith, linesOf}
-use Rattle.list_lines.specs.Lines.{tooLongLine}
 use Rattle.texts.specs.Texts.{numberTexts}
 use Rattle.texts.specs.Puts.{Puts, puts, joined, weaken}
 use Rattle.job_words.specs.declared.Row as D
-use Rattle.job_words.specs.Rows.{Row, none, said, bad, meaning, fitted, numbered, diskNumbers, diskOf, choices, choiceOf, lastPlace, selection, names, named, wordsRow, rowOf, rowsOf, isBad, firstBad, rowBytes, bytesOf, singles, rowTexts, jobTexts}
+use Rattle.job_words.specs.Rows.{Row, none, said, bad, meaning, fitted, numbered, diskNumbers, diskOf, choices, choiceOf, lastPlace, selection, names, named, wordsRow, rowOf, rowsOf, isBad, firstBad, rowBytes, bytesOf, singles, jobTexts}
 
 -- what a row of the code says, and that its numbers have room
 pub record Means (row : Row) (r : D.Row) : Type 0 where

@@ -1,7 +1,5 @@
 // A job in words as its records: SPEC, "Jobs in words".
 ghost use mathlib.Core.Path.{_≡_};
-ghost use Prim.Native.Nat.{_≤_};
-ghost use lib.ListN.{length};
 ghost use Rattle.forms.specs.Laid.{Laid};
 ghost use Rattle.texts.specs.Puts.{Puts};
 ghost use Rattle.job_words.specs.Rows.{rowOf, rowsOf, isBad, rowBytes, firstBad, bytesOf, jobTexts};

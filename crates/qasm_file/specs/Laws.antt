@@ -1,14 +1,14 @@
 -- What the code meets: with room for all, a word is refused for its letters alone, and lines for themselves; and the places of an input. Assumes nothing.
 use mathlib.Core.Path.{_≡_, refl, sym, ap, subst, _∙_}
 use mathlib.Core.Bool.{Bool, true, false, cond}
-use mathlib.Core.List.{List, [], _∷_, _++_}
-use Prim.Native.Nat.{ℕ, zero, suc, _+_, _-_, _*_, _/_, _≤_, _<_}
+use mathlib.Core.List.{List, [], _∷_}
+use Prim.Native.Nat.{ℕ, zero, suc, _+_, _-_, _*_, _≤_, _<_}
 use native.Mathlib.Nat.{min-le-right}
 use native.Mathlib.Omega.{arith}
 use lib.Seq.{take-all}
-use lib.Dec.{eqb, leb}
+use lib.Dec.{leb}
 use lib.ListN.{length, getD, take, drop, length-append, length-take, length-drop}
-use borrow.Author.Tests.{le-leb, leb-true, eq-eqb, ne-eqb}
+use borrow.Author.Tests.{le-leb, leb-true, ne-eqb}
 use Rattle.refusals.specs.Refusals.{notALetter, notALine}
 use Rattle.alphabet.specs.Letters.{Letter, H, S, T, W, bytes, lettersOf, areLetters, length-letters}
 use Rattle.qasm_lines.specs.declared.Refusal.{Refusal}

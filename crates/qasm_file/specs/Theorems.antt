@@ -1,18 +1,17 @@
 -- A file is read back: the word without its W. And the word that `pattern` prints is the word that `qasm` reads. Assumes nothing.
-use mathlib.Core.Path.{_≡_, refl, sym, ap, subst, _∙_}
-use mathlib.Core.Bool.{Bool, true, false, cond, _&&_}
+use mathlib.Core.Path.{_≡_, refl, sym, ap, _∙_}
+use mathlib.Core.Bool.{Bool, true, false}
 use mathlib.Core.List.{List, [], _∷_, _++_, append-nil}
-use Prim.Native.Nat.{ℕ, zero, suc, _+_, _-_, _*_, _≤_, _<_}
+use Prim.Native.Nat.{ℕ, zero, suc, _+_, _-_, _≤_, _<_}
 use native.Mathlib.Omega.{arith}
-use lib.Dec.{eqb}
-use lib.ListN.{length, getD, take, drop, length-append}
+use lib.ListN.{length, getD, drop, length-append}
 use lib.Seq.{getD-at, getD-append-add, drop-at, drop-drop}
-use borrow.Author.Tests.{le-ltb, eqb-true, eqb-false}
+use borrow.Author.Tests.{le-ltb, eqb-true}
 use Rattle.integers.specs.Booleans.{both-true}
 use Rattle.texts.specs.Texts.{shown}
 use Rattle.texts.specs.Puts.{joined}
 use Rattle.alphabet.specs.Letters.{Letter, H, S, T, W, byte, bytes, letterOf, isLetter, lettersOf, areLetters, length-letters}
-use Rattle.qasm_lines.specs.Text.{textOf, isText, wordOf, struck, same}
+use Rattle.qasm_lines.specs.Text.{textOf, struck, same}
 use Rattle.qasm_lines.specs.Laws.{text-is, word-text}
 use Rattle.qasm_lines.specs.Lines.{same-true, true-same}
 use Rattle.qasm_file.specs.File.{header, lineStart, wordStart, pastDash, placeOf, beginsFile, letterTexts, backOf}

@@ -23,8 +23,7 @@ use Rattle.wording.specs.Bytes.{wordFrom}
 use Rattle.wording.specs.Numbers.{Listed, numbers, numbersFrom}
 use Rattle.wording.specs.Numbers as W
 use Rattle.input_lines.specs.Lines.{linesOf}
-use Rattle.texts.specs.Puts.{joined}
-use Rattle.job_words.specs.Rows.{Row, none, said, bad, fitted, numbered, diskNumbers, diskOf, disk, choiceOf, lastPlace, selection, names, named, wordsRow, bare, rowOf, rowsOf, firstBad, rowBytes, bytesOf, jobOf}
+use Rattle.job_words.specs.Rows.{Row, none, said, bad, fitted, numbered, diskNumbers, disk, choiceOf, lastPlace, selection, names, named, wordsRow, bare, rowOf, rowsOf, firstBad, rowBytes, bytesOf, jobOf}
 use Rattle.job_words.specs.Laws.{joined-singles}
 use Rattle.readback.specs.Read.{saidOf, record-back}
 

@@ -2,20 +2,20 @@
 use mathlib.Core.Path.{_≡_, refl, sym, ap, _∙_}
 use mathlib.Core.Bool.{Bool, true, false, cond}
 use mathlib.Core.List.{List, [], _∷_, _++_, append-assoc, foldl-append}
-use Prim.Native.Nat.{ℕ, zero, suc, _+_, _-_, _*_, _/_, _%_, _≤_, _<_}
+use Prim.Native.Nat.{ℕ, zero, suc, _+_, _-_, _/_, _%_, _≤_, _<_}
 use native.Mathlib.Nat.{div-add-mod'}
 use native.Mathlib.Decide.{decLt}
 use native.Mathlib.Omega.{arith}
-use lib.Dec.{eqb, leb, ltb}
+use lib.Dec.{eqb, leb}
 use lib.IntN.{ℤ, pos, negsuc}
-use lib.ListN.{length, getD, drop, length-append}
+use lib.ListN.{length, getD, length-append}
 use lib.Seq.{getD-at, drop-at}
 use borrow.Author.Tests.{le-leb, lt-ltb, leb-true, ne-eqb}
 use Rattle.words.specs.Meaning.{turnedIf}
 use Rattle.text.specs.Decimal.{decimal, signedDecimal}
 use Rattle.text.proofs.Digits.{decimal-one, decimal-more, decimal-some}
-use Rattle.text_scan.specs.Run.{run}
-use Rattle.text_scan.specs.Number.{value, bad, isDigit, digitsAt, withDigit, valueOf, fits, fitted, spelling, numberFrom, numberAt}
+use Rattle.scan.specs.Run.{run}
+use Rattle.scan.specs.Number.{value, isDigit, digitsAt, withDigit, valueOf, fits, fitted, numberFrom, numberAt}
 
 -- ---- runs
 unfoldable pub All : (ℕ → Bool) → List ℕ → Type 0

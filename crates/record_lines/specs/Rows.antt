@@ -1,31 +1,29 @@
 -- The line of a record says that record. Assumes nothing.
-use mathlib.Core.Path.{_≡_, refl, sym, ap, ap₂, _∙_}
-use mathlib.Core.Bool.{Bool, true, false, not, cond}
+use mathlib.Core.Path.{_≡_, refl, sym, ap, _∙_}
+use mathlib.Core.Bool.{Bool, true, false, cond}
 use mathlib.Core.Logic.{_⊎_, inl, inr}
-use mathlib.Core.List.{List, [], _∷_, _++_, map, append-assoc, append-nil}
-use Prim.Native.Nat.{ℕ, zero, suc, _+_, _-_, _*_, _^_, _≤_, _<_}
+use mathlib.Core.List.{List, [], _∷_, _++_, append-nil}
+use Prim.Native.Nat.{ℕ, suc, _+_, _-_, _*_, _^_, _≤_, _<_}
 use native.Mathlib.Nat.{lt-of-lt-of-le, pow-le-pow-right}
 use native.Mathlib.Omega.{arith}
-use lib.Dec.{eqb, ltb, lit≤}
+use lib.Dec.{ltb}
 use lib.IntN.{ℤ, pos, negsuc}
-use lib.ListN.{length, take, drop, length-append}
+use lib.ListN.{length, take, length-append}
 use lib.Seq.{take-at, take-all}
-use borrow.Author.Tests.{lt-ltb, le-ltb, ltb-true, eqb-true}
+use borrow.Author.Tests.{lt-ltb, ltb-true}
 use Rattle.kinds.specs.declared.Kind.{Kind}
 use Rattle.kinds.specs.declared.Kind.the-variants as K
-use Rattle.kinds.specs.Kinds.{isKnown}
 use Rattle.text.specs.Decimal.{decimal, signedDecimal}
 use Rattle.forms.specs.declared.Field.{Field}
-use Rattle.forms.specs.Forms.{fieldsOf, takes, takesAll, recordBytes}
-use Rattle.text_scan.specs.Run.{run, runEnd, isByte, spacesFrom, wordEnd}
-use Rattle.text_scan.specs.Number.{isDigit}
+use Rattle.forms.specs.Forms.{fieldsOf, takes, takesAll}
+use Rattle.scan.specs.Run.{run, runEnd, isByte, spacesFrom, wordEnd}
+use Rattle.scan.specs.Number.{isDigit}
 use Rattle.wording.specs.Names.{isName, placeOf}
 use Rattle.wording.specs.Bytes.{wordFrom}
-use Rattle.wording.specs.Numbers.{numbers, numbersFrom}
-use Rattle.input_lines.specs.Lines.{linesWith, linesOf}
-use Rattle.job_words.specs.Rows.{Row, said, fitted, numbered, choiceOf, lastPlace, selection, names, named, wordsRow, bare, rowOf}
+use Rattle.wording.specs.Numbers.{numbersFrom}
+use Rattle.job_words.specs.Rows.{said, fitted, numbered, choiceOf, lastPlace, selection, names, named, wordsRow, bare, rowOf}
 use Rattle.record_lines.specs.Digits.{All, Stops, all-append, run-all, digits-all, digit-not, Small}
-use Rattle.record_lines.specs.Lines.{numbersText, nameOf, isOne, selectionText, restText, lineOf}
+use Rattle.record_lines.specs.Lines.{numbersText, nameOf, selectionText, restText, lineOf}
 use Rattle.record_lines.specs.Back.{AllSmall, numbers-back}
 
 -- ---- the bytes of a line

@@ -1,12 +1,12 @@
 -- A text of such lines is what `job` makes those records of. Assumes nothing.
 use mathlib.Core.Path.{_≡_, refl, sym, ap, ap₂, _∙_}
-use mathlib.Core.Bool.{Bool, true, false, not, cond}
-use mathlib.Core.Logic.{_⊎_, inl, inr}
+use mathlib.Core.Bool.{Bool, true, false, not}
+use mathlib.Core.Logic.{inl, inr}
 use mathlib.Core.List.{List, [], _∷_, _++_, map, append-assoc, append-nil}
 use Prim.Native.Nat.{ℕ, _≤_}
 use native.Mathlib.Omega.{arith}
 use lib.Dec.{eqb}
-use lib.IntN.{ℤ, pos}
+use lib.IntN.{ℤ}
 use lib.ListN.{length}
 use borrow.Author.Tests.{le-ltb}
 use Rattle.kinds.specs.declared.Kind.{Kind}
@@ -17,7 +17,7 @@ use Rattle.input_lines.specs.Lines.{linesWith}
 use Rattle.job_words.specs.Rows.{Row, said, rowOf, rowsOf, firstBad, bytesOf, jobOf}
 use Rattle.job_words.specs.Laws.{joined-singles}
 use Rattle.record_lines.specs.Digits.{All, all-append}
-use Rattle.record_lines.specs.Lines.{numbersText, nameOf, selectionText, restText, lineOf}
+use Rattle.record_lines.specs.Lines.{numbersText, nameOf, selectionText, lineOf}
 use Rattle.record_lines.specs.Rows.{text-all, not-byte, Chosen, row-back}
 
 -- records by their kinds and numbers: the text that says them, and their bytes

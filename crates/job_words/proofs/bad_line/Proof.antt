@@ -3,12 +3,12 @@ use native.Mathlib.Omega.{arith}
 use mathlib.Core.Path.{_≡_, refl, sym, ap, _∙_}
 use Prim.Native.Nat.{ℕ, _+_, _-_, _≤_, _<_}
 use mathlib.Core.List.{List}
-use mathlib.Core.Bool.{true, false}
-use lib.ListN.{length, take, drop}
+use mathlib.Core.Bool.{false}
+use lib.ListN.{length, drop}
 use native.Mathlib.Nat.{le-of-lt}
 use borrow.Author.Needs.{needs}
-use Rattle.text_scan.specs.Run.{isByte, lineEnd, runEnd-within}
-use Rattle.job_words.specs.Rows.{rowOf, rowsOf, firstBad}
+use Rattle.scan.specs.Run.{isByte, lineEnd, runEnd-within}
+use Rattle.job_words.specs.Rows.{rowsOf, firstBad}
 use Rattle.job_words.specs.Laws.{rows-end, rows-more, bad-here, bad-later}
 use Rattle.job_words.proofs.bad_line.Statement.{statement}
 use Rattle.job_words.proofs.bad_line.Tie as tie

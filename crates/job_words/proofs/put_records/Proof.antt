@@ -1,13 +1,13 @@
 use native.Mathlib.Omega.{arith}
-use mathlib.Core.Path.{_≡_, refl, sym, ap, _∙_}
-use Prim.Native.Nat.{ℕ, _+_, _-_, _≤_, _<_}
+use mathlib.Core.Path.{_≡_, refl, sym, _∙_}
+use Prim.Native.Nat.{ℕ, _-_, _≤_, _<_}
 use mathlib.Core.List.{List}
-use mathlib.Core.Bool.{true, false}
-use lib.ListN.{length, take, drop}
+use mathlib.Core.Bool.{false}
+use lib.ListN.{length, drop}
 use native.Mathlib.Nat.{le-of-lt}
 use borrow.Author.Needs.{needs}
-use Rattle.text_scan.specs.Run.{isByte, lineEnd, runEnd-within}
-use Rattle.forms.specs.Laid.{Slate, laid, laid-same}
+use Rattle.scan.specs.Run.{isByte, lineEnd, runEnd-within}
+use Rattle.forms.specs.Laid.{laid, laid-same}
 use Rattle.job_words.specs.Rows.{rowsOf, bytesOf}
 use Rattle.job_words.specs.Laws.{laid-rest, laid-row}
 use Rattle.job_words.proofs.put_records.Statement.{statement}

@@ -1,6 +1,5 @@
 use lib.Dec.{lit≤}
-use mathlib.Core.List.{[], _∷_}
-use Rattle.texts.specs.Puts.{one, join, weaken, retext}
+use Rattle.texts.specs.Puts.{one, join}
 use Rattle.qasm_file.specs.File.{header}
 use borrow.Author.Needs.{needs}
 use Rattle.qasm_file.proofs.put_lines.Statement.{statement}

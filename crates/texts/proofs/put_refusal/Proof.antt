@@ -7,11 +7,6 @@ use Rattle.texts.specs.Puts.{one, join, weaken}
 use borrow.Author.Needs.{needs}
 use Rattle.texts.proofs.put_refusal.Statement.{statement}
 use Rattle.texts.proofs.put_refusal.Tie as tie
-use Rattle.texts.proofs.put_refusal.Reads as reads
-use Rattle.texts.proofs.put_refusal.Lts as lts
-use Rattle.text.proofs.put_bytes.Reads as put-bytes-reads
-use Rattle.text.proofs.put_unsigned.Reads as put-unsigned-reads
-use Rattle.texts.proofs.put_number.Reads as put-number-reads
 
 -- src/lib.rt:23:38
 slice-aggregate-put-bytes : tie.Need-slice-aggregate-put-bytes

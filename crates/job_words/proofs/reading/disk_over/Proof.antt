@@ -1,8 +1,6 @@
 use mir.Syntax.{w64}
 use mir.Val.{SFits}
 use lib.IntN.{_*ℤ_}
-use native.Mathlib.Omega.{arith}
-use mathlib.Core.Path.{_≡_, refl, sym, ap, _∙_}
 use mir.Facts.{toZ-ofZ}
 use Rattle.job_words.specs.Laws.{means-is, disk-negative, disk-large, small-square}
 use borrow.Author.Needs.{needs}

@@ -1,6 +1,6 @@
 use native.Mathlib.Omega.{arith}
-use mathlib.Core.Path.{_≡_, refl, sym, ap, _∙_}
-use lib.ListN.{length, take}
+use mathlib.Core.Path.{refl, sym}
+use lib.ListN.{take}
 use lib.Seq.{length-take-le}
 use Rattle.job_words.specs.Laws.{means-is, means-fitted, many-taken}
 use borrow.Author.Needs.{needs}

@@ -1,4 +1,4 @@
-use mathlib.Core.Path.{_≡_, refl, sym, ap, _∙_}
+use mathlib.Core.Path.{sym, ap}
 use Rattle.job_words.specs.Rows.{numbered}
 use Rattle.job_words.specs.Laws.{means-is, listed-good, listed-none}
 use borrow.Author.Needs.{needs}

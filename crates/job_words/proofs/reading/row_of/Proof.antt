@@ -1,5 +1,5 @@
 use native.Mathlib.Omega.{arith}
-use mathlib.Core.Path.{_≡_, refl, sym, ap, _∙_}
+use mathlib.Core.Path.{sym}
 use mathlib.Core.Bool.{false}
 use lib.Seq.{length-take-le}
 use Rattle.text_scan.specs.Run.{isByte, runEnd-within}

@@ -1,8 +1,6 @@
 use native.Mathlib.Omega.{arith}
-use mathlib.Core.Path.{_≡_, refl, sym, ap, _∙_}
-use Prim.Native.Nat.{_≤_}
-use lib.ListN.{length}
-use Rattle.text_scan.specs.Run.{isByte, runEnd-within}
+use mathlib.Core.Path.{ap, _∙_}
+use Rattle.scan.specs.Run.{isByte, runEnd-within}
 use mathlib.Core.Bool.{true}
 use Rattle.job_words.specs.Rows.{lastPlace}
 use Rattle.job_words.specs.Laws.{means-is, choice-first, choice-second, choice-other}

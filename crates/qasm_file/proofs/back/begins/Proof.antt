@@ -1,9 +1,6 @@
 use native.Mathlib.Omega.{arith}
-use mathlib.Core.Path.{_≡_, sym, refl}
-use mathlib.Core.List.{List}
+use mathlib.Core.Path.{_≡_, sym}
 use Prim.Native.Nat.{ℕ}
-use mathlib.Core.Bool.{true, false}
-use lib.ListN.{length}
 use lib.Seq.{length-take-le}
 use Rattle.qasm_lines.proofs.Reading.{tested}
 use Rattle.qasm_file.specs.Laws.{begins-short}

@@ -1,10 +1,10 @@
 use native.Mathlib.Omega.{arith}
-use lib.Dec.{lit≤, ltb}
-use mathlib.Core.Path.{_≡_, sym, ap, _∙_}
+use lib.Dec.{lit≤}
+use mathlib.Core.Path.{sym, _∙_}
 use borrow.Author.Tests.{lt-ltb, le-ltb, not-true, not-false}
 use lib.ListN.{length}
 use Rattle.list_lines.specs.Lines.{tooLongLine}
-use Rattle.texts.specs.Puts.{one, join, weaken, retext}
+use Rattle.texts.specs.Puts.{one, weaken}
 use Rattle.qasm_file.specs.Laws.{take-rest}
 use borrow.Author.Needs.{needs}
 use Rattle.qasm_file.proofs.back.put_back.Statement.{statement}

@@ -1,9 +1,7 @@
 use native.Mathlib.Omega.{arith}
-use mathlib.Core.Path.{_≡_, sym, ap, _∙_}
-use lib.ListN.{length, take}
+use mathlib.Core.Path.{sym, _∙_}
 use lib.Seq.{length-take-le}
-use mathlib.Core.List.{[], _∷_}
-use Rattle.texts.specs.Puts.{one, join, weaken, retext}
+use Rattle.texts.specs.Puts.{weaken}
 use Rattle.qasm_file.specs.Laws.{take-most, read-wrote, read-refused}
 use borrow.Author.Needs.{needs}
 use Rattle.qasm_file.proofs.back.put_lines_word.Statement.{statement}

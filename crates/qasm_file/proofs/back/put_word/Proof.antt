@@ -1,6 +1,6 @@
 use lib.Dec.{lit≤}
 use mathlib.Core.List.{[], _∷_}
-use Rattle.texts.specs.Puts.{one, join, weaken, retext}
+use Rattle.texts.specs.Puts.{one, join}
 use Rattle.texts.specs.Texts.{shown, shown-size}
 use borrow.Author.Needs.{needs}
 use Rattle.qasm_file.proofs.back.put_word.Statement.{statement}

@@ -1,7 +1,6 @@
 use native.Mathlib.Omega.{arith}
-use mathlib.Core.Path.{_≡_, sym, ap, _∙_}
-use mathlib.Core.List.{List, [], _∷_}
-use Prim.Native.Nat.{ℕ}
+use mathlib.Core.Path.{sym, ap, _∙_}
+use mathlib.Core.List.{[], _∷_}
 use lib.ListN.{length, drop, length-drop}
 use Rattle.qasm_lines.proofs.Reading.{tested}
 use Rattle.qasm_file.specs.Laws.{take-rest, dash-there, dash-not}

@@ -1,5 +1,4 @@
-use mathlib.Core.Path.{_≡_, ap, _∙_}
-use lib.ListN.{length}
+use mathlib.Core.Path.{ap, _∙_}
 use Rattle.qasm_file.specs.File.{wordStart, pastDash, placeOf}
 use borrow.Author.Needs.{needs}
 use Rattle.qasm_file.proofs.place.place_of.Statement.{statement}
