@@ -14,8 +14,8 @@ use borrow.Author.Tests.{le-leb, lt-ltb, leb-true, ne-eqb}
 use Rattle.words.specs.Meaning.{turnedIf}
 use Rattle.text.specs.Decimal.{decimal, signedDecimal}
 use Rattle.text.proofs.Digits.{decimal-one, decimal-more, decimal-some}
-use Rattle.scan.specs.Run.{run}
-use Rattle.scan.specs.Number.{value, isDigit, digitsAt, withDigit, valueOf, fits, fitted, numberFrom, numberAt}
+use Rattle.text_scan.specs.Run.{run}
+use Rattle.text_scan.specs.Number.{value, isDigit, digitsAt, withDigit, valueOf, fits, fitted, numberFrom, numberAt}
 
 -- ---- runs
 unfoldable pub All : (ℕ → Bool) → List ℕ → Type 0

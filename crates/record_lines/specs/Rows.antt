@@ -16,8 +16,8 @@ use Rattle.kinds.specs.declared.Kind.the-variants as K
 use Rattle.text.specs.Decimal.{decimal, signedDecimal}
 use Rattle.forms.specs.declared.Field.{Field}
 use Rattle.forms.specs.Forms.{fieldsOf, takes, takesAll}
-use Rattle.scan.specs.Run.{run, runEnd, isByte, spacesFrom, wordEnd}
-use Rattle.scan.specs.Number.{isDigit}
+use Rattle.text_scan.specs.Run.{run, runEnd, isByte, spacesFrom, wordEnd}
+use Rattle.text_scan.specs.Number.{isDigit}
 use Rattle.wording.specs.Names.{isName, placeOf}
 use Rattle.wording.specs.Bytes.{wordFrom}
 use Rattle.wording.specs.Numbers.{numbersFrom}

@@ -7,7 +7,7 @@ use mathlib.Core.Bool.{false}
 use lib.ListN.{length, drop}
 use native.Mathlib.Nat.{le-of-lt}
 use borrow.Author.Needs.{needs}
-use Rattle.scan.specs.Run.{isByte, lineEnd, runEnd-within}
+use Rattle.text_scan.specs.Run.{isByte, lineEnd, runEnd-within}
 use Rattle.job_words.specs.Rows.{rowsOf, firstBad}
 use Rattle.job_words.specs.Laws.{rows-end, rows-more, bad-here, bad-later}
 use Rattle.job_words.proofs.bad_line.Statement.{statement}

@@ -6,7 +6,7 @@ use mathlib.Core.Bool.{false}
 use lib.ListN.{length, drop}
 use native.Mathlib.Nat.{le-of-lt}
 use borrow.Author.Needs.{needs}
-use Rattle.scan.specs.Run.{isByte, lineEnd, runEnd-within}
+use Rattle.text_scan.specs.Run.{isByte, lineEnd, runEnd-within}
 use Rattle.forms.specs.Laid.{laid, laid-same}
 use Rattle.job_words.specs.Rows.{rowsOf, bytesOf}
 use Rattle.job_words.specs.Laws.{laid-rest, laid-row}

@@ -4,7 +4,7 @@ use Prim.Native.Nat.{ℕ, _≤_, _-_}
 use mathlib.Core.List.{List}
 use mathlib.Core.Bool.{false}
 use lib.ListN.{length}
-use Rattle.scan.specs.Run.{isByte, spacesFrom, wordEnd, runEnd-within}
+use Rattle.text_scan.specs.Run.{isByte, spacesFrom, wordEnd, runEnd-within}
 use Rattle.wording.specs.Names.{wordsOf}
 use Rattle.job_words.specs.Laws.{last-not, last-word}
 use borrow.Author.Needs.{needs}
