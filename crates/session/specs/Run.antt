@@ -11,6 +11,7 @@ use Rattle.calls.specs.Since.{Exchange, exchanges, sinceAfter}
 use Rattle.stages.specs.declared.Session.{Session}
 use Rattle.stages.specs.declared.Answer.{Answer}
 use Rattle.stages.specs.World.{world}
+use Rattle.stages.specs.Meaning.{Fits}
 use Rattle.stages.specs.Session.{meaning, fresh, answerOf, Steps, Hands}
 
 -- a call that was made: its arguments, what it answered, and the lent slice as it left it (none: [])
@@ -36,6 +37,15 @@ pub data From : Session → List Made → Session → Type 0 where
 
 abbrev pub Run : List Made → Session → Type 0
 Run ms t = From fresh ms t
+
+-- the calls leave sessions of machine numbers (second promise of `read`, `hand_out` and `rewind`; `clear` leaves a fresh one, the questions the one they find)
+abbrev pub Machine : {s u : Session} {ms : List Made} → From s ms u → Type 0
+Machine none = Unit {0}
+Machine (then {t} k r) = Fits (t .stage) × Machine r
+
+pub machine-fits : {s t : Session} {ms : List Made} (r : From s ms t) → Fits (s .stage) → Machine r → Fits (t .stage)
+machine-fits none f m = f
+machine-fits (then k r) f m = machine-fits r (m .0) (m .1)
 
 -- what was asked, and what was answered, with the number of each refusal (SPEC, "Refusals")
 abbrev pub callsOf : List Made → List (Call world)

@@ -20,9 +20,9 @@ use Rattle.stages.specs.declared.Session.{Session}
 use Rattle.stages.specs.declared.Answer.the-variants as A
 use Rattle.stages.specs.World.{world}
 use Rattle.stages.specs.Session.{meaning, fresh, Hands}
-use Rattle.stages.specs.Meaning.{Fits, meaning-one}
+use Rattle.stages.specs.Meaning.{early, meaning-one}
 use Rattle.session.specs.Calls.{left, session-rules, session-first, session-rising, session-count, session-end, session-refused, session-operators, session-others}
-use Rattle.session.specs.Run.{Made, Link, hand-out, From, none, then, Run, callsOf, answered, answersOf, sinceOf, link-answer, link-session, from-answers, from-after, from-exchanges}
+use Rattle.session.specs.Run.{Made, Link, hand-out, From, none, then, Run, Machine, machine-fits, callsOf, answered, answersOf, sinceOf, link-answer, link-session, from-answers, from-after, from-exchanges}
 
 pub run-since : {ms : List Made} {t : Session} → Run ms t → sinceOf ms ≡ since world (callsOf ms)
 run-since r = ap (sinceAfter world []) (from-exchanges r)
@@ -113,9 +113,9 @@ module _ {ms ns : List Made} {t u : Session} (r : Run ms t) (q : Run ns u) (same
   pub run-refused-meaning : meaning u ≡ meaning t
   run-refused-meaning = from-after q ∙ ap (after world (meaning fresh)) struck-calls ∙ session-refused (callsOf ms) .same-session ∙ sym (from-after r)
 
-  -- sessions of machine numbers
-  pub run-refused-session : Fits (u .stage) → Fits (t .stage) → u ≡ t
-  run-refused-session f g = meaning-one f g run-refused-meaning
+  -- the sessions themselves are the same, since the machine's numbers are
+  pub run-refused-session : Machine q → Machine r → u ≡ t
+  run-refused-session f g = meaning-one (machine-fits q early f) (machine-fits r early g) run-refused-meaning
 
 -- ---- two lists that are alike without their operator readings get the same answers and points from their hand-outs
 -- the answers to the calls that are picked

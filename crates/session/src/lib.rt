@@ -1,6 +1,7 @@
 // A session and its calls, by value: SPEC, "Walk" and "Calls". Each call's contract is one step of the model in `calls`.
 ghost use mathlib.Core.List.{[]};
 ghost use Rattle.calls.specs.Session.{reading, rewind, plain, imageOf, shortest};
+ghost use Rattle.stages.specs.Meaning.{Fits};
 ghost use Rattle.stages.specs.Session.{Steps, Hands};
 
 mod hand;
@@ -19,6 +20,7 @@ pub use stages::start;
 // One reading: a record from the front of the bytes joins the session, or is refused.
 pub fn read(s: Session, bytes: &[u8]) -> Outcome
     ensures { λ r. ⌜ Steps (reading (now (bytes .entry))) [] s (r .session) (r .answer) ⌝ }
+    ensures fits { λ r. ⌜ Fits (r .session .stage) ⌝ }
 {
     let r = record::read(bytes, turns::turn(s));
     match r {
@@ -30,6 +32,7 @@ pub fn read(s: Session, bytes: &[u8]) -> Outcome
 // A hand-out: as many of the next listed points as the slice has space for.
 pub fn hand_out(s: Session, out: &mut [i32]) -> Outcome
     ensures { λ r. ⌜ Hands s (now (out .entry)) (now (out .exit)) (r .session) (r .answer) ⌝ }
+    ensures fits { λ r. ⌜ Fits (r .session .stage) ⌝ }
 {
     let g = s.stage;
     match g {
@@ -41,6 +44,7 @@ pub fn hand_out(s: Session, out: &mut [i32]) -> Outcome
 // Back before the first point.
 pub fn rewind(s: Session) -> Outcome
     ensures { λ r. ⌜ Steps rewind [] s (r .session) (r .answer) ⌝ }
+    ensures fits { λ r. ⌜ Fits (r .session .stage) ⌝ }
 {
     let g = s.stage;
     match g {

@@ -40,7 +40,7 @@ module _ (c : tie.After-read Inv-loop μ-loop) where
   all = take-all (length bytes - at) (drop at bytes) (le-of-eq (length-drop at bytes))
 
   stepped : outcome [] (c .read .result .session) (c .read .result .answer) ≡ step world (reading (drop at bytes)) (meaning (here .loop .s))
-  stepped = c .read .ensures .met ∙ ap (λ (b : List ℕ). step world (reading b) (meaning (here .loop .s))) all
+  stepped = c .read .ensures .0 .met ∙ ap (λ (b : List ℕ). step world (reading b) (meaning (here .loop .s))) all
 
   -- the same with the answer that the match found
   found : (a : Answer) → c .read .result .answer ≡ a → outcome [] (c .read .result .session) a ≡ step world (reading (drop at bytes)) (meaning (here .loop .s))

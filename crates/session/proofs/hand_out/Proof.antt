@@ -1,5 +1,6 @@
 use mathlib.Core.Path.{refl}
 use borrow.Author.Needs.{needs}
+use Rattle.session.proofs.Machine.{left-fits}
 use Rattle.session.proofs.hand_out.Statement.{statement}
 use Rattle.session.proofs.hand_out.Tie as tie
 
@@ -16,13 +17,13 @@ from-course-requires : tie.Need-from-course-requires
 from-course-requires c κs = search needs
 
 returns : tie.Need-returns
-returns c = rw (c .no-job .ensures .0, c .no-job .ensures .1, c .before .enum-told .given .1) (record { met = refl; values = refl; slice = refl })
+returns c = (rw (c .no-job .ensures .0, c .no-job .ensures .1, c .before .enum-told .given .1) (record { met = refl; values = refl; slice = refl }), left-fits (c .no-job .result) _ (c .no-job .ok))
 
 same-length : tie.Need-same-length
 same-length c = search needs
 
 returns-2 : tie.Need-returns-2
-returns-2 c = rw (c .before .before .before .before .g .given .1) (c .before .from-course .ensures)
+returns-2 c = (rw (c .before .before .before .before .g .given .1) (c .before .from-course .ensures), left-fits (c .before .from-course .result) _ (c .before .from-course .ok))
 
 pub hand-out-spec : {M : Type 1} → statement M
 hand-out-spec =

@@ -3,6 +3,7 @@ use mathlib.Core.Path.{sym, ap, _∙_}
 use Rattle.record.specs.Record.{readingOf}
 use Rattle.stages.specs.Session.{steps, outcomeOf, refused-outcome, reading-outcome}
 use borrow.Author.Needs.{needs}
+use Rattle.session.proofs.Machine.{left-fits}
 use Rattle.session.proofs.read.Statement.{statement}
 use Rattle.session.proofs.read.Tie as tie
 
@@ -27,20 +28,24 @@ refused-requires c κs = search needs
 returns : tie.Need-returns
 returns c =
     let r = c .before .before .before .before in
-    let s = r .before .before .before in
-    steps
-    (c .accepted .ensures
-    ∙ ap (outcomeOf (s .args .s)) (sym (c .before .before .r .given .1) ∙ r .read .ensures .reading ∙ ap (readingOf (now (s .args .bytes))) (r .before .turn .ensures))
-    ∙ sym (reading-outcome (s .args .s .stage) (now (s .args .bytes))))
+    let s = r .before .before .before in (
+      steps
+          (c .accepted .ensures
+          ∙ ap (outcomeOf (s .args .s)) (sym (c .before .before .r .given .1) ∙ r .read .ensures .reading ∙ ap (readingOf (now (s .args .bytes))) (r .before .turn .ensures))
+          ∙ sym (reading-outcome (s .args .s .stage) (now (s .args .bytes)))),
+      left-fits (c .accepted .result) _ (c .accepted .ok),
+    )
 
 returns-2 : tie.Need-returns-2
 returns-2 c =
     let r = c .before .before .before .before in
-    let s = r .before .before .before in
-    steps
-    (rw (c .refused .ensures .0, c .refused .ensures .1) (refused-outcome (s .args .s .stage) (c .before .before .r2 .given .0 .0))
-    ∙ ap (outcomeOf (s .args .s)) (sym (c .before .before .r2 .given .1) ∙ r .read .ensures .reading ∙ ap (readingOf (now (s .args .bytes))) (r .before .turn .ensures))
-    ∙ sym (reading-outcome (s .args .s .stage) (now (s .args .bytes))))
+    let s = r .before .before .before in (
+      steps
+          (rw (c .refused .ensures .0, c .refused .ensures .1) (refused-outcome (s .args .s .stage) (c .before .before .r2 .given .0 .0))
+          ∙ ap (outcomeOf (s .args .s)) (sym (c .before .before .r2 .given .1) ∙ r .read .ensures .reading ∙ ap (readingOf (now (s .args .bytes))) (r .before .turn .ensures))
+          ∙ sym (reading-outcome (s .args .s .stage) (now (s .args .bytes)))),
+      left-fits (c .refused .result) _ (c .refused .ok),
+    )
 
 pub read-spec : {M : Type 1} → statement M
 read-spec =

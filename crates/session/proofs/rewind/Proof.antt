@@ -1,6 +1,7 @@
 use mathlib.Core.Path.{refl, _∙_}
 use Rattle.stages.specs.Session.{steps}
 use borrow.Author.Needs.{needs}
+use Rattle.session.proofs.Machine.{left-fits}
 use Rattle.session.proofs.rewind.Statement.{statement}
 use Rattle.session.proofs.rewind.Tie as tie
 
@@ -17,10 +18,10 @@ rewound-requires : tie.Need-rewound-requires
 rewound-requires c κs = search needs
 
 returns : tie.Need-returns
-returns c = steps (rw (c .no-job .ensures .0, c .no-job .ensures .1, c .before .enum-told .given .1) refl)
+returns c = (steps (rw (c .no-job .ensures .0, c .no-job .ensures .1, c .before .enum-told .given .1) refl), left-fits (c .no-job .result) _ (c .no-job .ok))
 
 returns-2 : tie.Need-returns-2
-returns-2 c = steps (c .rewound .ensures ∙ rw (c .before .before .g .given .1) refl)
+returns-2 c = (steps (c .rewound .ensures ∙ rw (c .before .before .g .given .1) refl), left-fits (c .rewound .result) _ (c .rewound .ok))
 
 pub rewind-spec : {M : Type 1} → statement M
 rewind-spec =

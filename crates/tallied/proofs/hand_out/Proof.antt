@@ -12,7 +12,7 @@ hand-out-requires c κs = search needs
 grown-requires : tie.Need-grown-requires
 grown-requires c κs =
     let h = c .before .before .hand-out in
-    record { old = c .before .before .before .before .before .before .args .out .now; same = search needs; met = ap (λ (o : Model.Outcome world). o .0) (h .ensures .met) }
+    record { old = c .before .before .before .before .before .before .args .out .now; same = search needs; met = ap (λ (o : Model.Outcome world). o .0) (h .ensures .0 .met) }
 
 kept-requires : tie.Need-kept-requires
 kept-requires c κs = search needs
@@ -21,7 +21,7 @@ same-length : tie.Need-same-length
 same-length c = search needs
 
 returns : tie.Need-returns
-returns c = let k = c .kept .ensures in record { met = rw (k .0, k .2) (c .before .before .before .before .hand-out .ensures); tally = rw (k .2) (k .1 ∙ c .before .grown .ensures) }
+returns c = let k = c .kept .ensures in record { met = rw (k .0, k .2) (c .before .before .before .before .hand-out .ensures .0); tally = rw (k .2) (k .1 ∙ c .before .grown .ensures) }
 
 pub hand-out-spec : {M : Type 1} → statement M
 hand-out-spec =

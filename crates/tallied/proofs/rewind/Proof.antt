@@ -14,7 +14,7 @@ kept-requires : tie.Need-kept-requires
 kept-requires c κs = search needs
 
 returns : tie.Need-returns
-returns c = let k = c .kept .ensures in record { met = rw (k .0, k .2) (c .before .before .rewind .ensures); tally = rw (k .2) (k .1 ∙ c .before .restarted .ensures) }
+returns c = let k = c .kept .ensures in record { met = rw (k .0, k .2) (c .before .before .rewind .ensures .0); tally = rw (k .2) (k .1 ∙ c .before .restarted .ensures) }
 
 pub rewind-spec : {M : Type 1} → statement M
 rewind-spec = tie.close (tie.spec rewind-requires restarted-requires kept-requires returns)

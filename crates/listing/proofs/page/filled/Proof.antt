@@ -32,7 +32,7 @@ module _ (h : tie.After-hand-out) where
 
   -- with the answer that the match found
   met : (a : Answer) → h .hand-out .result .answer ≡ a → outcome new (h .hand-out .result .session) a ≡ step world (handOut old) (meaning (start .args .s))
-  met a e = ap (outcome new (h .hand-out .result .session)) (sym e) ∙ h .hand-out .ensures .met
+  met a e = ap (outcome new (h .hand-out .result .session)) (sym e) ∙ h .hand-out .ensures .0 .met
 
   abbrev Space : ℕ
   Space = length old / 4

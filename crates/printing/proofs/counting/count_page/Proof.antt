@@ -23,7 +23,7 @@ use Rattle.printing.proofs.counting.count_page.Tie as tie
 -- what the hand-out met, with the answer that the match found
 met : (h : tie.After-hand-out) (a : Answer) → h .hand-out .result .answer ≡ a
     → outcome (h .hand-out .last .1 .0) (h .hand-out .result .session) a ≡ step world (handOut (h .before .before .point-buffer .result)) (meaning (h .before .before .before .args .s))
-met h a e = ap (outcome (h .hand-out .last .1 .0) (h .hand-out .result .session)) (sym e) ∙ h .hand-out .ensures .met
+met h a e = ap (outcome (h .hand-out .last .1 .0) (h .hand-out .result .session)) (sym e) ∙ h .hand-out .ensures .0 .met
 
 -- an answer that is no hand-out's, by the number of its case
 not-handed : (l : List ℤ) (a : Answer) → OneOf (0 ∷ 2 ∷ 3 ∷ 4 ∷ 5 ∷ []) (tagOf the-type a) → isHanded (answerOf l a) ≡ false
@@ -51,7 +51,7 @@ returns c =
     let h = c .before .before .before in
     let b = h .before .before in
     let new = h .hand-out .last .1 .0 in
-    refused-counts (b .point-buffer .result) (answerOf new (h .hand-out .result .answer)) (meaning (h .hand-out .result .session)) (meaning (b .before .args .s)) (not-handed new (h .hand-out .result .answer) (c .match .keys2)) (h .hand-out .ensures .met)
+    refused-counts (b .point-buffer .result) (answerOf new (h .hand-out .result .answer)) (meaning (h .hand-out .result .session)) (meaning (b .before .args .s)) (not-handed new (h .hand-out .result .answer) (c .match .keys2)) (h .hand-out .ensures .0 .met)
 
 returns-2 : tie.Need-returns-2
 returns-2 c =

@@ -56,7 +56,7 @@ sub-at-2 : tie.Need-sub-at-2 Inv-loop μ-loop
 sub-at-2 c = let w = within (c .before .before) in omega arith
 
 mul-at : tie.Need-mul-at Inv-loop μ-loop
-mul-at c = search needs
+mul-at c = let w = within (c .before .before) in omega arith
 
 shared-slice-read-letter : tie.Need-shared-slice-read-letter Inv-loop μ-loop
 shared-slice-read-letter c = let w = within (c .before .before .before) in omega arith
