@@ -59,8 +59,8 @@ pub fn read(text: &[u8], word: &mut [u8]) -> Answer
     if !is_text(text) {
         return Answer::Refused(Refusal::NotALine);
     }
-    let fits = put_word(text, word);
-    if !fits {
+    let whole = put_word(text, word);
+    if !whole {
         return Answer::Refused(Refusal::NoRoom);
     }
     Answer::Wrote(text.len() / 8)
