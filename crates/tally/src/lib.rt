@@ -95,10 +95,20 @@ fn exponent(v: Point, k: u8) -> u32
     }
     if agree(v.a, 0) {
         if agree(v.b, 0) {
-            return half(v).exponent(k - 2);
+            return exponent_of(half(v), k - 2);
         }
     }
     k as u32 - 1
+}
+
+// The exponent of any point: k where √2 does not divide it.
+fn exponent_of(v: Point, k: u8) -> u32
+    ensures { λ r. ⌜ r ≡ exponentOf k v ⌝ }
+{
+    if is_odd(v) {
+        return k as u32;
+    }
+    v.exponent(k)
 }
 
 // Half of a point, each number toward zero.

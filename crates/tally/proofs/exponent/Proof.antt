@@ -44,8 +44,8 @@ even-b c =
 half-requires : tie.Need-half-requires
 half-requires c κs = search needs
 
-exponent-requires : tie.Need-exponent-requires
-exponent-requires c κs = search needs
+exponent-of-requires : tie.Need-exponent-of-requires
+exponent-of-requires c κs = search needs
 
 returns-2 : tie.Need-returns-2
 returns-2 c =
@@ -55,7 +55,7 @@ returns-2 c =
     let e = a .before .before in
     let s = e .before in
     let v = s .args .v in
-    c .exponent .ensures ∙ ap (exponentOf (s .args .k - 2)) (h .half .ensures)
+    c .exponent-of .ensures ∙ ap (exponentOf (s .args .k - 2)) (h .half .ensures)
     ∙ half-exponent (s .args .k) v (s .pre) (sym (even-a a) ∙ b .before .before .if2 .taken) (sym (even-b b) ∙ h .before .if3 .taken) (e .if1 .left)
 
 sub-result : tie.Need-sub-result
@@ -79,7 +79,7 @@ exponent-spec =
     agree-requires
     agree-requires-2
     half-requires
-    exponent-requires
+    exponent-of-requires
     returns-2
     sub-result
     returns-3)
