@@ -248,7 +248,7 @@ tests() {
         /^calls=/ { split($1, n, "="); calls[to] += n[2] }
         /^totals:/ { total = $2 }
         END {
-            for (id in calls) if (name[id] ~ /Job::solves_accepted$/) sum += calls[id]
+            for (id in calls) if (name[id] ~ /(solves_accepted|along::solves)$/) sum += calls[id]
             print sum + 0, total
         }' "$scratch/calls"
 }
