@@ -82,12 +82,13 @@ def parse(path):
         head = re.match(r"((?:abbrev |unfoldable |pub |record |data |inductive |infixl? |infixr? )*)(" + NAME + r")\s*(.*)$", stripped)
         record = re.match(r"(?:pub )?(?:abbrev )?(?:record|data|inductive)\s+(" + NAME + ")", stripped)
         sign = re.match(r"(?:(?:abbrev|unfoldable|pub)\s+)*(" + NAME + r")\s*:\s", stripped + " ")
-        if indent <= 2 and record and indent == 0:
+        if record and indent <= 2:
             current = found.setdefault(record[1], Decl(path, comment or number))
-            current.head.append(stripped)
-            current.end = number
+            current.head += given + [stripped]
+            current.end, current.indent = number, indent
             current.record = True
-        elif indent <= 2 and sign and not (indent == 2 and current is not None and getattr(current, "record", False)) and not stripped.startswith("let "):
+            current.cases = not re.match(r"(?:pub )?(?:abbrev )?record", stripped)
+        elif indent <= 2 and sign and not (current is not None and getattr(current, "record", False) and indent > current.indent) and not stripped.startswith("let "):
             current = Decl(path, comment or number)
             found.setdefault(sign[1], current)
             current.head += given + [stripped]
@@ -101,6 +102,10 @@ def parse(path):
                 current.in_head = False
             (current.head if getattr(current, "in_head", False) else current.body).append(stripped)
             current.end = number
+            # a case of a data type leads to the type
+            case = re.match(r"(?:pub )?(" + NAME + r"(?:\s+" + NAME + r")*)\s*:\s", stripped + " ") if getattr(current, "cases", False) else None
+            for name in case[1].split() if case else ():
+                found.setdefault(name, current)
         comment = None
     return found, brought
 
@@ -109,7 +114,7 @@ def struct(crate, name):
     for path in sorted((root / "crates" / crate / "src").rglob("*.rt")):
         lines = path.read_text().split("\n")
         for number, line in enumerate(lines, 1):
-            if re.match(r"\s*pub(?:\(crate\))? (struct|enum) " + re.escape(name) + r"\b", line):
+            if re.match(r"\s*(?:pub(?:\(crate\))? )?(struct|enum) " + re.escape(name) + r"\b", line):
                 end = number
                 while lines[end - 1].strip() != "}" and not lines[end - 1].rstrip().endswith(";"):
                     end += 1
@@ -135,7 +140,7 @@ def locate(where, name, seen=()):
     if not m:
         return None
     crate, inner = m[1], m[2]
-    declared = re.match(r"declared\.(\w+)", inner)
+    declared = re.match(r"declared\.(?:\w+\.)*?(\w+)(?:\.the-variants)?$", inner)
     if declared:
         return struct(crate, declared[1])
     path = modules.get((crate, inner))
@@ -158,6 +163,15 @@ def names_in(text):
     return re.findall(NAME + r"(?:\." + NAME + ")*", text)
 
 
+def found_at(path, where, name):
+    """As locate, but a name of the project that leads nowhere is an error: nothing may be missing in silence."""
+    d = locate(where, name)
+    crate = re.match(r"Rattle·(\w+)", where)
+    if d is None and crate and (root / "crates" / crate[1]).is_dir():
+        sys.exit(f"docs/believe.py: {path.relative_to(root)} has {name} from {where}, and it is not found there")
+    return d
+
+
 def followed(path, text, table):
     """The declarations that the names of a text of this file lead to."""
     out = []
@@ -168,11 +182,11 @@ def followed(path, text, table):
         elif word in uses.get(path, {}):
             where, old = uses[path][word]
             if old is not None:
-                out.append(locate(where, old))
+                out.append(found_at(path, where, old))
         elif len(parts) == 2 and parts[0] in uses.get(path, {}):
             where, old = uses[path][parts[0]]
             if old is None:
-                out.append(locate(where, parts[1]))
+                out.append(found_at(path, where, parts[1]))
     # operators: a name with places for its arguments, all of whose parts stand in the text
     spaced = f" {text} ".replace("\n", " ")
     for mark in [*table, *uses.get(path, {})]:
@@ -182,7 +196,7 @@ def followed(path, text, table):
                 out.append(table[mark])
             else:
                 where, old = uses[path][mark]
-                out.append(locate(where, old or mark))
+                out.append(found_at(path, where, old or mark))
     return [d for d in out if d is not None]
 
 
@@ -195,6 +209,8 @@ def contract(path, name):
             old, _, new = item.strip().partition(" as ")
             if old:
                 brought[(new or old).strip()] = (m[1], old.strip())
+    for m in re.finditer(r"^ghost use (Rattle·\S+) as (\S+);$", "\n".join(lines), re.M):
+        brought[m[2]] = (m[1], None)
     uses[path] = brought
     for number, line in enumerate(lines, 1):
         if re.match(r"\s*pub (?:extern \"C\" )?fn " + name + r"\b", line):
@@ -278,7 +294,7 @@ def made():
     return "\n".join(
         [
             "",
-            "Made by `docs/believe.py`, and compared by the gate: from the statements of the theorems and contracts in the first table every name is followed to its definition, and from there on, until only names of the toolchain are left. "
+            "Made by `docs/believe.py`, and compared by the gate: from the statements of the theorems and contracts in the first table every name is followed to its definition, and from there on, until only names of the toolchain are left; a name of the project that leads nowhere is an error. The script goes by names, and is itself not proved. "
             f"What the claims below say is these {len(everything)} places, {lines:,} lines with their comments, in {len(files)} files below `crates/`, and no others; all else is lemma, proof or code, which the prover has read.",
             "",
             "| Claim | Theorems, and functions with their contracts | Lines that it adds |",
