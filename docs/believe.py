@@ -11,13 +11,13 @@ import re
 import sys
 
 root = pathlib.Path(__file__).resolve().parent.parent
-# claim, then its theorems (crate/specs file: names) and contracts (crate/src file: functions)
+# claim, then its theorems (crate/specs file: names) and contracts (crate/src file: functions); GROUPS says from which claim on a group goes
+GROUPS = {"Demand 1": "The three demands", "Ticket 2, the other entry": "Each request", "What the list program prints": "The programs", "No word at all is shorter": "Optimality"}
 ROOTS = [
     ("Demand 1", {"session/src/lib.rt": "read hand_out rewind has_solution has_image shortest", "stages/src/lib.rt": "start clear"}),
     ("Demand 2", {"session/specs/RunWalk.antt": "run-finished run-empty"}),
     ("Demand 3", {"session/specs/RunCalls.antt": "run-rules run-first run-rising run-count run-end run-refused run-operators run-others", "session/specs/RunWalk.antt": "run-points"}),
     ("What is remembered, and the image question", {"session/specs/RunImage.antt": "run-remembers run-image"}),
-    ("What the list program prints", {"printing/src/lib.rt": "print_list"}),
     ("Ticket 2, the other entry", {"entry/src/lib.rt": "hand_out", "entry/specs/Full.antt": "full-means"}),
     ("Ticket 4, the line problem", {"line/src/lib.rt": "pairs", "rows/specs/Steps.antt": "shift-holds scale-holds"}),
     ("Ticket 6, gate words", {"lent_words/src/lib.rt": "words", "spelling/specs/Exact.antt": "word-spells", "spelling/specs/Tailed.antt": "normal"}),
@@ -28,6 +28,7 @@ ROOTS = [
     ("Ticket 11, the tally", {"tallied/specs/Counted.antt": "run-tallied"}),
     ("Ticket 12, OpenQASM lines", {"qasm_lines/src/lib.rt": "write read", "qasm_lines/specs/Laws.antt": "same-text word-text text-word text-iff"}),
     ("Ticket 14, pattern sheets", {"sheet/src/lib.rt": "read write", "sheet/specs/Crew.antt": "crew-same crew-blind"}),
+    ("What the list program prints", {"printing/src/lib.rt": "print_list"}),
     ("What the other programs print", {"pattern_text/src/lib.rt": "put", "job_words/src/lib.rt": "put", "qasm_file/src/lib.rt": "put_file"}),
     ("No word at all is shorter", {"t_count/specs/Calls.antt": "run-fewest run-beyond"}),
 ]
@@ -50,7 +51,8 @@ def parse(path):
     lines = path.read_text().split("\n")
     found, brought, current, comment, given, opening = {}, {}, None, None, [], False
     text = "\n".join(lines)
-    for m in re.finditer(r"^\s*(?:pub )?use (Rattle·[^\s{]+?)(?:\.\{(.*?)\}| as (\S+))?$", text, re.M | re.S):
+    found_uses = list(re.finditer(r"^\s*(?:unfoldable )?(?:pub )?use (Rattle·[^\s{]+?)(?:\.\{(.*?)\}| as (\S+))?$", text, re.M | re.S))
+    for m in found_uses:
         where, some, alias = m[1], m[2], m[3]
         if some is not None:
             for item in some.replace("\n", " ").split(","):
@@ -60,6 +62,8 @@ def parse(path):
                     brought[(new or old).strip()] = (where, old.strip())
         else:
             brought[(alias or where.rsplit(".", 1)[-1])] = (where, None)
+    if len(re.findall(r"^(?!\s*--).*\buse Rattle·", text, re.M)) != len(found_uses):
+        sys.exit(f"docs/believe.py: {path.relative_to(root)} has a use line that is not understood")
     for number, line in enumerate(lines, 1):
         stripped = line.strip()
         indent = len(line) - len(line.lstrip())
@@ -76,7 +80,7 @@ def parse(path):
             continue
         if indent == 0:
             given = []
-        if indent == 0 and re.match(r"(pub )?(use|mod|open|import)\b", stripped):
+        if indent == 0 and re.match(r"(unfoldable )?(pub )?(use|mod|open|import)\b", stripped):
             current, comment = None, None
             continue
         head = re.match(r"((?:abbrev |unfoldable |pub |record |data |inductive |infixl? |infixr? )*)(" + NAME + r")\s*(.*)$", stripped)
@@ -248,9 +252,27 @@ def closure(roots):
         key = (str(d.path), d.start)
         if key in places:
             continue
+        if is_lemma(d):
+            d = statement(d)
         places[key] = d
         todo += followed(d.path, "\n".join(d.head + d.body), decls.get(d.path, {}))
     return places
+
+
+def is_lemma(d):
+    """Whether a declaration is a proof, by its type: its outcome is an equation or an order. A definition may hold one, and then its statement is what is read."""
+    if d.path.suffix != ".antt" or getattr(d, "record", False) or not d.body:
+        return False
+    said = " ".join(d.head).split(" : ", 1)[-1]
+    return bool(re.search(r" (≡|≤|<|↔) ", said.rsplit(" → ", 1)[-1])) and not re.search(r"\bType \d", said)
+
+
+def counted(places):
+    """The lines of places, with comments and without."""
+    rows = {(str(d.path), n) for d in places for n in range(d.start, d.end + 1)}
+    texts = {path: pathlib.Path(path).read_text().split("\n") for path, _ in rows}
+    plain = sum(1 for path, n in rows if texts[path][n - 1].strip() and not texts[path][n - 1].strip().startswith(("--", "//")))
+    return len(rows), plain
 
 
 def statement(d):
@@ -282,23 +304,29 @@ def by_file(places):
 
 
 def made():
-    everything, rows = {}, []
+    everything, rows, sums, group = {}, [], [], None
     for claim, roots in ROOTS:
         places = closure(roots)
         new = {k: d for k, d in places.items() if k not in everything}
         everything.update(new)
+        if claim in GROUPS:
+            group = GROUPS[claim]
+            rows.append(f"| **{group}** | | | |")
+            sums.append([group, {}])
+        sums[-1][1].update(new)
         said = "; ".join(f"`{file}`: " + ", ".join(f"`{n}`" for n in names.split()) for file, names in roots.items())
-        rows.append(f"| {claim} | {said} | {sum(d.end - d.start + 1 for d in new.values())} |")
-    lines = sum(d.end - d.start + 1 for d in everything.values())
+        rows.append(f"| {claim} | {said} | {counted(new.values())[1]:,} | {counted(places.values())[1]:,} |")
+    lines, plain = counted(everything.values())
     files = by_file(everything)
+    parts = "; ".join(f"{name[0].lower() + name[1:]} {counted(places.values())[1]:,}" for name, places in sums)
     return "\n".join(
         [
             "",
-            "Made by `docs/believe.py`, and compared by the gate: from the statements of the theorems and contracts in the first table every name is followed to its definition, and from there on, until only names of the toolchain are left; a name of the project that leads nowhere is an error. The script goes by names, and is itself not proved. "
-            f"What the claims below say is these {len(everything)} places, {lines:,} lines with their comments, in {len(files)} files below `crates/`, and no others; all else is lemma, proof or code, which the prover has read.",
+            "Made by `docs/believe.py`, and compared by the gate: from the statements of the theorems and contracts in the first table every name is followed to its definition, and from there on, until only names of the toolchain are left; of a lemma that a definition holds the statement alone counts; a name of the project that leads nowhere is an error. The script goes by names, and is itself not proved. "
+            f"What the claims below say is these {len(everything)} places in {len(files)} files below `crates/`, and no others: {plain:,} lines without comments and blank ones ({lines:,} with them); all else is lemma, proof or code, which the prover has read. In this order: {parts}.",
             "",
-            "| Claim | Theorems, and functions with their contracts | Lines that it adds |",
-            "|---|---|---|",
+            "| Claim | Theorems, and functions with their contracts | Lines that it adds | Lines for it alone |",
+            "|---|---|---|---|",
             *rows,
             "",
             "| File | Lines |",
