@@ -140,6 +140,13 @@ whole-long k n e = go (isKnown k) e
     go true e = leb-true (bodyLength k) n e
     go false e = never e
 
+pub whole-known : (k : Kind) (n : ℕ) → isWhole k n ≡ true → isKnown k ≡ true
+whole-known k n e = go (isKnown k) e
+  where
+    go : (b : Bool) → cond b (leb (bodyLength k) n) false ≡ true → b ≡ true
+    go true e = refl
+    go false e = never e
+
 pub bytes-drop : (n : ℕ) (s : List ℕ) → Bytes s → Bytes (drop n s)
 bytes-drop n s h j = rw (getD-drop n s j 0) (h (n + j))
 
