@@ -50,7 +50,7 @@ pub fn fields(kind: u8) -> Option<&'static [Field]> {
     KINDS.get(usize::from(kind).checked_sub(1)?).copied()
 }
 
-fn body_length(fields: &[Field]) -> usize {
+pub fn body_length(fields: &[Field]) -> usize {
     fields.iter().map(|field| field.bytes).sum()
 }
 

@@ -57,6 +57,7 @@ const USAGE: &str = "usage: peer [list | count | first] < job
        peer words SEED COUNT
        peer gen SEED COUNT DIR
        peer pack < words > job
+       peer show < job
        peer text SEED
        peer qasm < word
        peer unqasm < file
@@ -104,6 +105,7 @@ fn run(arguments: &[String]) -> Outcome {
             generate(number(seed)?, number(count)?, Path::new(directory))
         }
         ("pack", []) => put(&pack::pack(&all_input()?)),
+        ("show", []) => show(&all_input()?),
         ("text", [seed]) => put(&pack::text(number(seed)?)),
         ("qasm", []) => put(&files::qasm(&all_input()?)),
         ("unqasm", []) => put(&files::unqasm(&all_input()?)),
@@ -349,6 +351,14 @@ fn all_input() -> io::Result<Vec<u8>> {
     let mut bytes = Vec::new();
     io::stdin().lock().read_to_end(&mut bytes)?;
     Ok(bytes)
+}
+
+/// The words of a job, or what is printed instead of its list.
+fn show(input: &[u8]) -> Outcome {
+    match job_of(input) {
+        Ok(_) => put(&pack::show(input)),
+        Err(instead) => say(instead),
+    }
 }
 
 /// Compares what a pattern program answered for a job with the shortest pattern

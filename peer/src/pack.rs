@@ -1,6 +1,8 @@
 //! Jobs in words (SPEC, "Jobs in words").
 
-use crate::job::{encode, fields, ELLIPSE, OPERATOR, RECTANGLE, SCALE, SELECTION, SLICE};
+use crate::job::{
+    body_length, decode, encode, fields, ELLIPSE, OPERATOR, RECTANGLE, SCALE, SELECTION, SLICE,
+};
 use crate::random::Random;
 
 /// What a line says: nothing, a record, or no record.
@@ -10,10 +12,15 @@ enum Said {
     Bad,
 }
 
+/// The most bytes of records that a program takes, and the most that `job` reads.
+const LONGEST_JOB: usize = 65_536;
+const LONGEST_TEXT: usize = 7 * LONGEST_JOB;
+
 /// What `job` prints for a text.
 pub fn pack(text: &[u8]) -> Vec<u8> {
-    if text.len() > 65_536 {
-        return b"too long\n".to_vec();
+    let too_long = b"too long\n".to_vec();
+    if text.len() > LONGEST_TEXT {
+        return too_long;
     }
     let mut bytes = Vec::new();
     for (number, line) in text.split(|&b| b == b'\n').enumerate() {
@@ -23,7 +30,37 @@ pub fn pack(text: &[u8]) -> Vec<u8> {
             Said::Bad => return format!("bad line {}\n", number + 1).into_bytes(),
         }
     }
+    if bytes.len() > LONGEST_JOB {
+        return too_long;
+    }
     bytes
+}
+
+/// What `show` prints for the records of a job that is accepted.
+pub fn show(job: &[u8]) -> Vec<u8> {
+    let mut text = String::new();
+    let mut rest = job;
+    while let Some((&kind, after)) = rest.split_first() {
+        let fields = fields(kind).expect("a known kind");
+        let (body, behind) = after.split_at(body_length(fields));
+        let values = decode(fields, body).expect("values in range");
+        text.push_str(&words(kind, &values));
+        rest = behind;
+    }
+    text.into_bytes()
+}
+
+fn words(kind: u8, values: &[i64]) -> String {
+    let name = match kind {
+        SCALE => "scale",
+        RECTANGLE => "rectangle",
+        ELLIPSE => "ellipse",
+        OPERATOR => "operator",
+        SLICE => "slice",
+        _ => return format!("selection {}\n", if values[0] == 0 { "new" } else { "all" }),
+    };
+    let numbers: String = values.iter().map(|value| format!(" {value}")).collect();
+    format!("{name}{numbers}\n")
 }
 
 fn said(line: &[u8]) -> Said {

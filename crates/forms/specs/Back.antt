@@ -13,10 +13,13 @@ use lib.ListN.{length, getD, take, drop, length-append, length-drop}
 use lib.Pow.{pow-add}
 use lib.Seq.{drop-cons, take-add, drop-drop}
 use borrow.Author.Tests.{ltb-true, ltb-false, lt-ltb}
+use Rattle.kinds.specs.declared.Kind.{Kind}
+use Rattle.kinds.specs.declared.Kind.the-variants as K
+use Rattle.kinds.specs.Kinds.{bodyLength}
 use Rattle.fields.specs.Field.{unsignedAt, signedAt, signed-is, twos, twos-low, twos-high}
 use Rattle.fields.specs.Bytes.{littleEndian, bitsOf, length-bytes, unsigned-back, signed-back}
 use Rattle.forms.specs.declared.Field.{Field}
-use Rattle.forms.specs.Forms.{takes, takesAll, numberAt, numbersAt, fieldBytes, bodyBytes}
+use Rattle.forms.specs.Forms.{fieldsOf, takes, takesAll, numberAt, numbersAt, fieldBytes, bodyBytes}
 
 -- bits and bytes
 pub bits-bytes : (n : ℕ) → 2 ^ (8 * n) ≡ 256 ^ n
@@ -162,3 +165,34 @@ module _ (s : List ℕ) (bytes : Bytes s) where
   numbers-again [] k p h = refl
   numbers-again (f ∷ fs) k p h =
       rw (number-again f (p .0) k (omega arith), numbers-again fs (k + f .size) (p .1) (omega arith), take-add (f .size) (sizeOf fs) (drop k s), drop-drop (f .size) k s) refl
+
+-- ---- lengths of bodies
+pub sized : (k : Kind) → Sized (fieldsOf k)
+unfolding Sized fieldsOf
+sized K.Scale = (omega arith, tt)
+sized K.Rectangle = (omega arith, (omega arith, (omega arith, (omega arith, (omega arith, tt)))))
+sized K.Ellipse = (omega arith, (omega arith, (omega arith, (omega arith, (omega arith, (omega arith, (omega arith, tt)))))))
+sized K.Operator = (omega arith, (omega arith, (omega arith, (omega arith, (omega arith, (omega arith, (omega arith, (omega arith, tt))))))))
+sized K.Slice = (omega arith, (omega arith, (omega arith, (omega arith, tt))))
+sized K.Selection = (omega arith, tt)
+sized K.Unknown = tt
+
+pub size-kind : (k : Kind) → sizeOf (fieldsOf k) ≡ bodyLength k
+unfolding sizeOf fieldsOf
+size-kind K.Scale = refl
+size-kind K.Rectangle = refl
+size-kind K.Ellipse = refl
+size-kind K.Operator = refl
+size-kind K.Slice = refl
+size-kind K.Selection = refl
+size-kind K.Unknown = refl
+
+pub length-body : (fs : List Field) (zs : List ℤ) → takesAll fs zs ≡ true → length (bodyBytes fs zs) ≡ sizeOf fs
+unfolding takesAll bodyBytes sizeOf
+length-body [] zs h = refl
+length-body (f ∷ fs) [] h = never h
+length-body (f ∷ fs) (z ∷ zs) h = go (takes f z) h (length-body fs zs)
+  where
+    go : (b : Bool) → cond b (takesAll fs zs) false ≡ true → (takesAll fs zs ≡ true → length (bodyBytes fs zs) ≡ sizeOf fs) → length (fieldBytes f z ++ bodyBytes fs zs) ≡ f .size + sizeOf fs
+    go true e rest = length-append (fieldBytes f z) (bodyBytes fs zs) ∙ ap₂ _+_ (length-bytes (f .size) (bitsOf (8 * f .size) z)) (rest e)
+    go false e rest = never e

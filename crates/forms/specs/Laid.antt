@@ -41,7 +41,7 @@ laid-fits (b ∷ l) xs at h =
     (laid-fits l (written xs at (b ∷ [])) (after xs at (b ∷ [])) (omega arith))
 
 -- ---- a writer keeps the slice's length
-length-written : (xs : List ℕ) (at : ℕ) (ys : List ℕ) → length (written xs at ys) ≡ length xs
+pub length-written : (xs : List ℕ) (at : ℕ) (ys : List ℕ) → length (written xs at ys) ≡ length xs
 unfolding written
 length-written xs at ys = elim (decLe (at + length ys) (length xs)) [
   | yes k ↦ appended xs at ys (written xs at ys) (after xs at ys) k refl refl .same

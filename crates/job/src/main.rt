@@ -9,7 +9,7 @@ fn main() {
     if usage::told(b"usage: job < WORDS > JOB\nThe records that lines of words say.\n") {
         return;
     }
-    let mut input = filter::input_buffer();
+    let mut input = input_buffer();
     answer(&mut input);
 }
 
@@ -33,9 +33,15 @@ fn say(bytes: &[u8]) -> bool
     filter::print(&out, n)
 }
 
-// Room for a record for every byte.
-fn output_buffer() -> [u8; 1376256]
-    ensures { λ r. ⌜ 1376256 ≡ length r ⌝ }
+// One byte more than the words may have.
+fn input_buffer() -> [u8; 458753]
+    ensures { λ r. ⌜ 458753 ≡ length r ⌝ }
 {
-    [0; 1376256]
+    [0; 458753]
+}
+
+fn output_buffer() -> [u8; 65536]
+    ensures { λ r. ⌜ 65536 ≡ length r ⌝ }
+{
+    [0; 65536]
 }

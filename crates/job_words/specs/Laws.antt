@@ -15,10 +15,10 @@ use lib.Seq.{drop-drop}
 use borrow.Author.Tests.{ltb-true, ltb-false, lt-ltb, le-ltb, ne-eqb}
 use Rattle.kinds.specs.declared.Kind.{Kind}
 use Rattle.kinds.specs.declared.Kind.the-variants as K
-use Rattle.fields.specs.Bytes.{bitsOf, length-bytes}
+use Rattle.kinds.specs.Kinds.{bodyLength}
 use Rattle.forms.specs.declared.Field.{Field}
 use Rattle.forms.specs.Forms.{fieldsOf, takes, takesAll, fieldBytes, bodyBytes, recordBytes}
-use Rattle.forms.specs.Back.{sizeOf}
+use Rattle.forms.specs.Back.{size-kind, length-body}
 use Rattle.forms.specs.Laid.{Slate, laid, Laid, laid-append}
 use Rattle.text_scan.specs.Run.{run, runEnd, isByte, spacesFrom, wordEnd, lineEnd}
 use Rattle.wording.specs.declared.Numbers as N
@@ -27,6 +27,7 @@ use Rattle.wording.specs.Bytes.{wordFrom, nextFrom}
 use Rattle.wording.specs.Numbers.{Listed, numbers, numbersFrom, listedOf}
 use Rattle.wording.specs.Numbers as W
 use Rattle.input_lines.specs.Lines.{lastLine, linesWith, linesOf}
+use Rattle.list_lines.specs.Lines.{tooLongLine}
 use Rattle.texts.specs.Texts.{numberTexts}
 use Rattle.texts.specs.Puts.{Puts, puts, joined, weaken}
 use Rattle.job_words.specs.declared.Row as D
@@ -234,18 +235,21 @@ unfolding firstBad
 bad-later n r rs e = rw e refl
 
 -- ---- how long the records are
-length-body : (fs : List Field) (zs : List ℤ) → length (bodyBytes fs zs) ≤ sizeOf fs
-unfolding bodyBytes sizeOf
-length-body [] zs = omega arith
-length-body (f ∷ fs) [] = omega arith
-length-body (f ∷ fs) (z ∷ zs) =
-    let a = length-append (fieldBytes f z) (bodyBytes fs zs) in
-    let b = length-bytes (f .size) (bitsOf (8 * f .size) z) in
-    let h = length-body fs zs in
-    omega arith
+module _ {row : Row} {r : D.Row} (m : Means row r) where
+  pub length-blank : r .blank ≡ true → length (rowBytes row) ≡ 0
+  length-blank e = ap length (bytes-blank m e)
 
-small : (k : Kind) → sizeOf (fieldsOf k) ≤ 20
-unfolding sizeOf fieldsOf
+  pub length-bad : r .blank ≡ false → r .good ≡ false → length (rowBytes row) ≡ 0
+  length-bad e f = ap length (bytes-bad m e f)
+
+  pub length-said : r .blank ≡ false → r .good ≡ true → length (rowBytes row) ≡ 1 + bodyLength (r .kind)
+  unfolding recordBytes
+  length-said e f =
+      let b = length-body (fieldsOf (r .kind)) (take (r .count) (r .numbers)) (m .fits e f) in
+      let k = size-kind (r .kind) in
+      ap length (bytes-said m e f) ∙ omega arith
+
+pub small : (k : Kind) → bodyLength k ≤ 20
 small K.Scale = omega arith
 small K.Rectangle = omega arith
 small K.Ellipse = omega arith
@@ -254,36 +258,13 @@ small K.Slice = omega arith
 small K.Selection = omega arith
 small K.Unknown = omega arith
 
-length-row : (r : Row) → length (rowBytes r) ≤ 21
-unfolding recordBytes
-length-row none = omega arith
-length-row (said k zs) = let h = length-body (fieldsOf k) zs in let n = small k in omega arith
-length-row bad = omega arith
-
-length-rows : (rs : List Row) → length (bytesOf rs) ≤ 21 * length rs
+pub length-rest : (s : List ℕ) (at : ℕ) → length s ≤ at → length (bytesOf (rowsOf (drop at s))) ≡ 0
 unfolding bytesOf
-length-rows [] = omega arith
-length-rows (r ∷ rs) = let a = length-append (rowBytes r) (bytesOf rs) in let h = length-row r in let n = length-rows rs in omega arith
+length-rest s at h = rw (rows-end s at h) refl
 
-length-map : (ls : List (List ℕ)) → length (map rowOf ls) ≡ length ls
-length-map [] = refl
-length-map (l ∷ ls) = ap suc (length-map ls)
-
-length-last : (w : List ℕ) → length (lastLine w) ≤ length w
-length-last [] = omega arith
-length-last (b ∷ w) = omega arith
-
-length-lines : (w t : List ℕ) → length (linesWith w t) ≤ length w + length t
-unfolding linesWith
-length-lines w [] = let h = length-last w in omega arith
-length-lines w (b ∷ t) = go (eqb b 10) (length-lines [] t) (length-lines (w ++ b ∷ []) t)
-  where
-    go : (c : Bool) → length (linesWith [] t) ≤ 0 + length t → length (linesWith (w ++ b ∷ []) t) ≤ length (w ++ b ∷ []) + length t → length (cond c (w ∷ linesWith [] t) (linesWith (w ++ b ∷ []) t)) ≤ length w + suc (length t)
-    go true h k = omega arith
-    go false h k = let a = length-append w (b ∷ []) in omega arith
-
-pub length-job : (s : List ℕ) → length s ≤ 65536 → length (bytesOf (rowsOf s)) ≤ 1376256
-length-job s h = let a = length-rows (rowsOf s) in let b = length-map (linesOf s) in let c = length-lines [] s in omega arith
+pub length-more : (s : List ℕ) (at : ℕ) → at < length s → length (bytesOf (rowsOf (drop at s))) ≡ length (rowBytes (rowOf (take (lineEnd s at - at) (drop at s)))) + length (bytesOf (rowsOf (drop (lineEnd s at + 1) s)))
+unfolding bytesOf
+length-more s at h = ap (λ (l : List Row). length (bytesOf l)) (rows-more s at h) ∙ length-append (rowBytes (rowOf (take (lineEnd s at - at) (drop at s)))) (bytesOf (rowsOf (drop (lineEnd s at + 1) s)))
 
 -- ---- bytes put one by one are texts of one byte each
 pub joined-singles : (l : List ℕ) → joined (singles l) ≡ l
@@ -314,12 +295,15 @@ laid-row s t bytes at h e =
     ap (λ (x : Slate). laid x (bytesOf rs)) e ∙ sym (laid-append s (rowBytes r) (bytesOf rs)) ∙ ap (λ (l : List Row). laid s (bytesOf l)) (sym (rows-more bytes at h))
 
 -- ---- the whole output
-module _ (xs bytes out : List ℕ) (r : ℕ) (short : length bytes ≤ 65536) where
-  pub job-records : (n : ℕ) → n ≡ firstBad 1 (rowsOf bytes) → n ≡ 0 → Laid xs 0 (bytesOf (rowsOf bytes)) out r → Puts (xs, 0) (jobTexts bytes) (out, r) 1376256
-  job-records n e f l =
+module _ (xs bytes out : List ℕ) (r : ℕ) (short : length bytes ≤ 458752) (n : ℕ) (first : n ≡ firstBad 1 (rowsOf bytes)) where
+  pub job-records : n ≡ 0 → ltb 65536 (length (bytesOf (rowsOf bytes))) ≡ false → Laid xs 0 (bytesOf (rowsOf bytes)) out r → Puts (xs, 0) (jobTexts bytes) (out, r) 65536
+  job-records f e l =
       let t = bytesOf (rowsOf bytes) in
-      let w : Puts (xs, 0) (singles t) (out, r) 1376256 = record { is = l ∙ laid-puts (xs, 0) t; size = rw (joined-singles t) (length-job bytes short) } in
-      rw (le-ltb 65536 (length bytes) short, ← e, f) w
+      let w : Puts (xs, 0) (singles t) (out, r) 65536 = record { is = l ∙ laid-puts (xs, 0) t; size = rw (joined-singles t) (ltb-false 65536 (length t) e) } in
+      rw (le-ltb 458752 (length bytes) short, ← first, f, e) w
 
-  pub job-bad : (n : ℕ) → n ≡ firstBad 1 (rowsOf bytes) → (n ≡ 0 → ⊥) → Puts (xs, 0) (numberTexts (98 ∷ 97 ∷ 100 ∷ 32 ∷ 108 ∷ 105 ∷ 110 ∷ 101 ∷ []) n) (out, r) 30 → Puts (xs, 0) (jobTexts bytes) (out, r) 1376256
-  job-bad n e f w = rw (le-ltb 65536 (length bytes) short, ← e, ne-eqb n 0 f) (weaken 1376256 (lit≤ tt) w)
+  pub job-long : n ≡ 0 → ltb 65536 (length (bytesOf (rowsOf bytes))) ≡ true → Puts (xs, 0) (tooLongLine ∷ []) (out, r) 65536 → Puts (xs, 0) (jobTexts bytes) (out, r) 65536
+  job-long f e w = rw (le-ltb 458752 (length bytes) short, ← first, f, e) w
+
+  pub job-bad : (n ≡ 0 → ⊥) → Puts (xs, 0) (numberTexts (98 ∷ 97 ∷ 100 ∷ 32 ∷ 108 ∷ 105 ∷ 110 ∷ 101 ∷ []) n) (out, r) 30 → Puts (xs, 0) (jobTexts bytes) (out, r) 65536
+  job-bad f w = rw (le-ltb 458752 (length bytes) short, ← first, ne-eqb n 0 f) (weaken 65536 (lit≤ tt) w)

@@ -133,13 +133,17 @@ unfoldable pub singles : List ℕ → List (List ℕ)
 singles [] = []
 singles (b ∷ l) = (b ∷ []) ∷ singles l
 
--- the records, or `bad line L` alone
-abbrev pub rowTexts : ℕ → List Row → List (List ℕ)
-rowTexts n rs = cond (eqb n 0) (singles (bytesOf rs)) (numberTexts (98 ∷ 97 ∷ 100 ∷ 32 ∷ 108 ∷ 105 ∷ 110 ∷ 101 ∷ []) n)
+-- the records, at most 65,536 bytes of them, which is what a reader of records takes
+abbrev pub recordTexts : List ℕ → List (List ℕ)
+recordTexts l = cond (ltb 65536 (length l)) (tooLongLine ∷ []) (singles l)
 
--- at most 65,536 bytes are read
+-- or `bad line L` alone
+abbrev pub rowTexts : ℕ → List Row → List (List ℕ)
+rowTexts n rs = cond (eqb n 0) (recordTexts (bytesOf rs)) (numberTexts (98 ∷ 97 ∷ 100 ∷ 32 ∷ 108 ∷ 105 ∷ 110 ∷ 101 ∷ []) n)
+
+-- at most 458,752 bytes are read: a record's line, as `show` prints it, has at most seven times as many bytes as the record
 abbrev pub jobTexts : List ℕ → List (List ℕ)
-jobTexts s = cond (ltb 65536 (length s)) (tooLongLine ∷ []) (rowTexts (firstBad 1 (rowsOf s)) (rowsOf s))
+jobTexts s = cond (ltb 458752 (length s)) (tooLongLine ∷ []) (rowTexts (firstBad 1 (rowsOf s)) (rowsOf s))
 
 abbrev pub jobOf : List ℕ → List ℕ
 jobOf s = joined (jobTexts s)

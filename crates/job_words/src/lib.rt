@@ -1,5 +1,8 @@
 // A job in words as its records: SPEC, "Jobs in words".
 ghost use mathlib.Core.Path.{_≡_};
+ghost use Prim.Native.Nat.{_≤_};
+ghost use lib.Dec.{ltb};
+ghost use lib.ListN.{length};
 ghost use Rattle.forms.specs.Laid.{Laid};
 ghost use Rattle.texts.specs.Puts.{Puts};
 ghost use Rattle.job_words.specs.Rows.{rowOf, rowsOf, isBad, rowBytes, firstBad, bytesOf, jobTexts};
@@ -19,17 +22,19 @@ struct Row {
 
 // All that `job` prints for an input.
 pub fn put(out: &mut [u8], bytes: &[u8]) -> usize
-    ensures { λ r. ⌜ Puts (now (out .entry), 0) (jobTexts (now (bytes .entry))) (now (out .exit), r) 1376256 ⌝ }
+    ensures { λ r. ⌜ Puts (now (out .entry), 0) (jobTexts (now (bytes .entry))) (now (out .exit), r) 65536 ⌝ }
 {
-    if 65536 < bytes.len() {
+    if 458752 < bytes.len() {
         return list_lines::put_too_long(out, 0);
     }
     let line = bad_line(bytes);
-    if line == 0 {
-        put_records(out, bytes)
-    } else {
-        texts::put_number(out, 0, b"bad line", line as u64)
+    if line != 0 {
+        return texts::put_number(out, 0, b"bad line", line as u64);
     }
+    if exceeds(bytes) {
+        return list_lines::put_too_long(out, 0);
+    }
+    put_records(out, bytes)
 }
 
 // The number of the first line that says no record, from 1 on; 0 where there is none.
@@ -47,6 +52,23 @@ fn bad_line(bytes: &[u8]) -> usize
         line += 1;
     }
     0
+}
+
+// Whether the records of all lines have more than 65,536 bytes.
+fn exceeds(bytes: &[u8]) -> bool
+    ensures { λ r. ⌜ r ≡ ltb 65536 (length (bytesOf (rowsOf (now (bytes .entry))))) ⌝ }
+{
+    let mut at = 0;
+    let mut total = 0;
+    while at < bytes.len() {
+        let end = text_scan::line_end(bytes, at);
+        total += row_length(&bytes[at..end]);
+        if 65536 < total {
+            return true;
+        }
+        at = end + 1;
+    }
+    false
 }
 
 // The records of all lines.
@@ -68,6 +90,21 @@ fn is_bad(line: &[u8]) -> bool
 {
     let r = reading::row_of(line);
     if r.blank { false } else { !r.good }
+}
+
+// How many bytes a line's record has.
+fn row_length(line: &[u8]) -> usize
+    ensures { λ r. ⌜ (r ≡ length (rowBytes (rowOf (now (line .entry))))) × (r ≤ 21) ⌝ }
+{
+    let r = reading::row_of(line);
+    if r.blank {
+        return 0;
+    }
+    if !r.good {
+        return 0;
+    }
+    let kind = r.kind;
+    1 + kinds::body_length(kind)
 }
 
 // A line's record, where it says one.

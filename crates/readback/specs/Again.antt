@@ -11,8 +11,7 @@ use Rattle.kinds.specs.declared.Kind.{Kind}
 use Rattle.kinds.specs.declared.Kind.the-variants as K
 use Rattle.kinds.specs.Kinds.{kindOf, bodyLength, isKnown}
 use Rattle.forms.specs.Forms.{fieldsOf, kindByte, takesAll, numbersAt, recordBytes}
-use Rattle.forms.specs.Back.{Bytes, sizeOf, all-taken, numbers-again}
-use Rattle.readback.specs.Read.{sized, size-kind}
+use Rattle.forms.specs.Back.{Bytes, sizeOf, all-taken, numbers-again, sized, size-kind}
 
 -- the byte of a known kind
 kind-byte : (b : ℕ) → isKnown (kindOf b) ≡ true → kindByte (kindOf b) ≡ b

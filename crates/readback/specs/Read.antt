@@ -1,14 +1,13 @@
 -- A record that was written is read again: one reading of its bytes gives the record that its numbers say (SPEC, "Records"). Assumes nothing.
-use mathlib.Core.Path.{_≡_, refl, ap, ap₂, _∙_}
+use mathlib.Core.Path.{_≡_, refl, ap, _∙_}
 use mathlib.Core.Bool.{Bool, true, false, cond}
 use mathlib.Core.List.{List, [], _∷_, _++_}
-use Prim.Native.Nat.{ℕ, _+_, _*_, _≤_}
+use Prim.Native.Nat.{ℕ}
 use native.Mathlib.Omega.{arith}
 use lib.Dec.{ltb, leb, eqb}
 use lib.IntN.{ℤ, pos, natAbs}
 use lib.ListN.{length, getD, length-append}
 use borrow.Author.Tests.{le-ltb}
-use Rattle.fields.specs.Bytes.{bitsOf, length-bytes}
 use Rattle.region.specs.declared.Region.the-variants as Shape
 use Rattle.region.specs.Region as Reg
 use Rattle.operator.specs.declared.Operator.{Operator}
@@ -22,9 +21,8 @@ use Rattle.record.specs.declared.Record.the-variants as Rec
 use Rattle.record.specs.declared.Reading.{Reading}
 use Rattle.record.specs.declared.Reading.the-variants.{Accepted, Refused}
 use Rattle.record.specs.Record.{scaleOf, rectangleOf, ellipseOf, sliceOf, operatorOf, selectionOf, regionReading, operatorReading, bodyOf, admitted, readingOf}
-use Rattle.forms.specs.declared.Field.{Field}
-use Rattle.forms.specs.Forms.{fieldsOf, kindByte, takes, takesAll, numberAt, numbersAt, fieldBytes, bodyBytes, recordBytes}
-use Rattle.forms.specs.Back.{Sized, sizeOf, numbers-back}
+use Rattle.forms.specs.Forms.{fieldsOf, kindByte, takesAll, numberAt, numbersAt, bodyBytes, recordBytes}
+use Rattle.forms.specs.Back.{numbers-back, sized, size-kind, length-body}
 
 -- ---- the record that numbers say
 abbrev at : List ℤ → ℕ → ℤ
@@ -61,39 +59,8 @@ body-said K.Operator s = refl
 body-said K.Selection s = refl
 body-said K.Unknown s = refl
 
--- ---- lengths
-pub sized : (k : Kind) → Sized (fieldsOf k)
-unfolding Sized fieldsOf
-sized K.Scale = (omega arith, tt)
-sized K.Rectangle = (omega arith, (omega arith, (omega arith, (omega arith, (omega arith, tt)))))
-sized K.Ellipse = (omega arith, (omega arith, (omega arith, (omega arith, (omega arith, (omega arith, (omega arith, tt)))))))
-sized K.Operator = (omega arith, (omega arith, (omega arith, (omega arith, (omega arith, (omega arith, (omega arith, (omega arith, tt))))))))
-sized K.Slice = (omega arith, (omega arith, (omega arith, (omega arith, tt))))
-sized K.Selection = (omega arith, tt)
-sized K.Unknown = tt
-
-pub size-kind : (k : Kind) → sizeOf (fieldsOf k) ≡ bodyLength k
-unfolding sizeOf fieldsOf
-size-kind K.Scale = refl
-size-kind K.Rectangle = refl
-size-kind K.Ellipse = refl
-size-kind K.Operator = refl
-size-kind K.Slice = refl
-size-kind K.Selection = refl
-size-kind K.Unknown = refl
-
 never : {P : Type 0} → false ≡ true → P
 never e = absurd (let y : _≡_ {A = ℕ} 0 1 = cc in omega arith)
-
-length-body : (fs : List Field) (zs : List ℤ) → takesAll fs zs ≡ true → length (bodyBytes fs zs) ≡ sizeOf fs
-unfolding takesAll bodyBytes sizeOf
-length-body [] zs h = refl
-length-body (f ∷ fs) [] h = never h
-length-body (f ∷ fs) (z ∷ zs) h = go (takes f z) h (length-body fs zs)
-  where
-    go : (b : Bool) → cond b (takesAll fs zs) false ≡ true → (takesAll fs zs ≡ true → length (bodyBytes fs zs) ≡ sizeOf fs) → length (fieldBytes f z ++ bodyBytes fs zs) ≡ f .size + sizeOf fs
-    go true e rest = length-append (fieldBytes f z) (bodyBytes fs zs) ∙ ap₂ _+_ (length-bytes (f .size) (bitsOf (8 * f .size) z)) (rest e)
-    go false e rest = never e
 
 -- ---- what was written is read
 kind-back : (k : Kind) → isKnown k ≡ true → kindOf (kindByte k) ≡ k

@@ -100,12 +100,12 @@ unfolding bytesOf
 bytes-append [] b = refl
 bytes-append (r ∷ a) b = rw (bytes-append a b) (sym (append-assoc (rowBytes r) (bytesOf a) (bytesOf b)))
 
--- without a bad line, the record that a row says is what a reading at its place gives, whatever stands before and behind it, in every turn
-pub rows-back : (s : List ℕ) (a b : List Row) (k : Kind) (zs : List ℤ) (t : Turn) → length s ≤ 65536 → firstBad 1 (rowsOf s) ≡ 0 → rowsOf s ≡ a ++ said k zs ∷ b
+-- without a bad line, and where the records are not too long, the record that a row says is what a reading at its place gives, whatever stands before and behind it, in every turn
+pub rows-back : (s : List ℕ) (a b : List Row) (k : Kind) (zs : List ℤ) (t : Turn) → length s ≤ 458752 → length (bytesOf (rowsOf s)) ≤ 65536 → firstBad 1 (rowsOf s) ≡ 0 → rowsOf s ≡ a ++ said k zs ∷ b
     → readingOf (drop (length (bytesOf a)) (jobOf s)) t ≡ cond (inTurn k t) (saidOf k zs) (Refused OutOfTurn)
 unfolding bytesOf
-rows-back s a b k zs t h e f =
+rows-back s a b k zs t h m e f =
     let (known, takes) = rows-fit (linesOf s) a b k zs f in
-    let o : jobOf s ≡ bytesOf (rowsOf s) = rw (le-ltb 65536 (length s) h, e) (joined-singles (bytesOf (rowsOf s))) in
+    let o : jobOf s ≡ bytesOf (rowsOf s) = rw (le-ltb 458752 (length s) h, e, le-ltb 65536 (length (bytesOf (rowsOf s))) m) (joined-singles (bytesOf (rowsOf s))) in
     let p : jobOf s ≡ bytesOf a ++ (recordBytes k zs ++ bytesOf b) = o ∙ ap bytesOf f ∙ bytes-append a (said k zs ∷ b) in
     rw (p, drop-at (bytesOf a) (recordBytes k zs ++ bytesOf b) (length (bytesOf a)) refl) (record-back k zs (bytesOf b) t known takes)

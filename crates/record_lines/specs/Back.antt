@@ -15,7 +15,7 @@ use Rattle.text_scan.specs.Run.{run, runEnd, isByte, spacesFrom}
 use Rattle.text_scan.specs.Number.{value, isDigit}
 use Rattle.wording.specs.Numbers.{leading, numbers, endsWord, wordAt, leadingWith, leadingFrom, numbersFrom, leading-end, leading-more}
 use Rattle.record_lines.specs.Digits.{All, Stops, run-all, digits-all, digit-not, Small, number-back}
-use Rattle.record_lines.specs.Lines.{numbersText}
+use Rattle.record_text.specs.Lines.{numbersText}
 
 unfoldable pub AllSmall : List ℤ → Type 0
 AllSmall [] = Unit {0}

@@ -23,7 +23,7 @@ use Rattle.wording.specs.Bytes.{wordFrom}
 use Rattle.wording.specs.Numbers.{numbersFrom}
 use Rattle.job_words.specs.Rows.{said, fitted, numbered, choiceOf, lastPlace, selection, names, named, wordsRow, bare, rowOf}
 use Rattle.record_lines.specs.Digits.{All, Stops, all-append, run-all, digits-all, digit-not, Small}
-use Rattle.record_lines.specs.Lines.{numbersText, nameOf, selectionText, restText, lineOf}
+use Rattle.record_text.specs.Lines.{numbersText, nameOf, selectionText, restText, lineOf}
 use Rattle.record_lines.specs.Back.{AllSmall, numbers-back}
 
 -- ---- the bytes of a line

@@ -17,14 +17,10 @@ use Rattle.input_lines.specs.Lines.{linesWith}
 use Rattle.job_words.specs.Rows.{Row, said, rowOf, rowsOf, firstBad, bytesOf, jobOf}
 use Rattle.job_words.specs.Laws.{joined-singles}
 use Rattle.record_lines.specs.Digits.{All, all-append}
-use Rattle.record_lines.specs.Lines.{numbersText, nameOf, selectionText, lineOf}
+use Rattle.record_text.specs.Lines.{numbersText, nameOf, selectionText, lineOf, textOf}
 use Rattle.record_lines.specs.Rows.{text-all, not-byte, Chosen, row-back}
 
--- records by their kinds and numbers: the text that says them, and their bytes
-unfoldable pub textOf : List (Kind × List ℤ) → List ℕ
-textOf [] = []
-textOf (r ∷ rs) = lineOf (r .0) (r .1) ++ (10 ∷ textOf rs)
-
+-- records by their kinds and numbers: their bytes
 unfoldable pub recordsOf : List (Kind × List ℤ) → List ℕ
 recordsOf [] = []
 recordsOf (r ∷ rs) = recordBytes (r .0) (r .1) ++ recordsOf rs
@@ -82,6 +78,7 @@ bytes-text [] = refl
 bytes-text (r ∷ rs) = ap (λ (l : List ℕ). recordBytes (r .0) (r .1) ++ l) (bytes-text rs)
 
 -- `job` of the text that says records is the records
-pub text-back : (rs : List (Kind × List ℤ)) → Proper rs → length (textOf rs) ≤ 65536 → jobOf (textOf rs) ≡ recordsOf rs
-text-back rs h n =
-    rw (le-ltb 65536 (length (textOf rs)) n, rows-text rs h, none-bad 1 rs) (joined-singles (bytesOf (map saidBy rs)) ∙ bytes-text rs)
+pub text-back : (rs : List (Kind × List ℤ)) → Proper rs → length (textOf rs) ≤ 458752 → length (recordsOf rs) ≤ 65536 → jobOf (textOf rs) ≡ recordsOf rs
+text-back rs h n m =
+    let short : length (bytesOf (map saidBy rs)) ≤ 65536 = rw (bytes-text rs) m in
+    rw (le-ltb 458752 (length (textOf rs)) n, rows-text rs h, none-bad 1 rs, le-ltb 65536 (length (bytesOf (map saidBy rs))) short) (joined-singles (bytesOf (map saidBy rs)) ∙ bytes-text rs)

@@ -1,12 +1,11 @@
 use mathlib.Core.Path.{sym}
 use lib.ListN.{length-replicate}
 use Prim.Native.Nat.{ℕ}
-use Prim.Native.Nat.{ℕ}
 use Rattle.job.proofs.output_buffer.Statement.{statement}
 use Rattle.job.proofs.output_buffer.Tie as tie
 
 returns : tie.Need-returns
-returns c = sym (length-replicate {0} {A = ℕ} 1376256 0)
+returns c = sym (length-replicate {0} {A = ℕ} 65536 0)
 
 pub output-buffer-spec : {M : Type 1} → statement M
 output-buffer-spec = tie.close (tie.spec returns)

@@ -21,13 +21,13 @@ print-requires : tie.Need-print-requires
 print-requires c κs =
     let p = c .before .before in
     let b = c .before .before .before .before in
-    puts-within (b .output-buffer .result) (jobTexts (c .before .before .before .before .before .before .args .bytes .now)) (p .put .last .0) (p .put .result) 1376256 (let e = b .output-buffer .ensures in omega arith) (p .put .ensures)
+    puts-within (b .output-buffer .result) (jobTexts (c .before .before .before .before .before .before .args .bytes .now)) (p .put .last .0) (p .put .result) 65536 (let e = b .output-buffer .ensures in omega arith) (p .put .ensures)
 
 returns : tie.Need-returns
 returns c =
     let p = c .before .before .before in
     let b = c .before .before .before .before .before in
-    rw (puts-joined (b .output-buffer .result) (jobTexts (c .before .before .before .before .before .before .before .args .bytes .now)) (p .put .last .0) (p .put .result) 1376256 (let e = b .output-buffer .ensures in omega arith) (p .put .ensures)) at (c .print .ensures)
+    rw (puts-joined (b .output-buffer .result) (jobTexts (c .before .before .before .before .before .before .before .args .bytes .now)) (p .put .last .0) (p .put .result) 65536 (let e = b .output-buffer .ensures in omega arith) (p .put .ensures)) at (c .print .ensures)
 
 pub say-spec : {M : Type 1} → statement M
 say-spec =

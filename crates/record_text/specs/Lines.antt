@@ -44,3 +44,8 @@ restText K.Unknown zs = []
 
 abbrev pub lineOf : Kind → List ℤ → List ℕ
 lineOf k zs = nameOf k ++ restText k zs
+
+-- records by their kinds and numbers: the text that says them, a line each
+unfoldable pub textOf : List (Kind × List ℤ) → List ℕ
+textOf [] = []
+textOf (r ∷ rs) = lineOf (r .0) (r .1) ++ (10 ∷ textOf rs)
