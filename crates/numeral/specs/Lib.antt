@@ -1,0 +1,2 @@
+-- What the contract of `numeral` cites.
+pub mod Numeral
