@@ -39,10 +39,17 @@ fn raised(job: Job, from: Point) -> Spot
     Spot::At(from)
 }
 
-// Whether bounds are worth finding for a walk from there.
-pub(crate) fn is_near(s: Spot, from: Point) -> bool {
+// Whether bounds are worth finding for a walk from s on, where the nearest goes on at w.
+pub(crate) fn is_near(s: Spot, w: Spot) -> bool {
     match s {
-        Spot::At(p) => p.a <= from.a,
+        Spot::At(p) => has_come_to(w, p),
+        Spot::Ended => false,
+    }
+}
+
+fn has_come_to(w: Spot, p: Point) -> bool {
+    match w {
+        Spot::At(q) => p.a <= q.a,
         Spot::Ended => false,
     }
 }

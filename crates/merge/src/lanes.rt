@@ -68,8 +68,8 @@ pub(crate) fn floors(t: Tray, from: Point) -> [Mark; 8]
     marks
 }
 
-// The jobs of a tray's regions, those with their bounds whose walk goes on near a point.
-pub(crate) fn open(t: Tray, marks: [Mark; 8], from: Point) -> [Source; 8]
+// The jobs of a tray's regions, with bounds where its walk goes on near the nearest spot.
+pub(crate) fn open(t: Tray, marks: [Mark; 8], near: Spot) -> [Source; 8]
     ensures { λ r. ⌜ Ready t r ⌝ }
 {
     let size = trays::size(t);
@@ -79,7 +79,7 @@ pub(crate) fn open(t: Tray, marks: [Mark; 8], from: Point) -> [Source; 8]
         let job = trays::job(t, j);
         let m = marks[j];
         let spot = m.spot;
-        sources[j] = made(job, floor::is_near(spot, from));
+        sources[j] = made(job, floor::is_near(spot, near));
         j += 1;
     }
     sources

@@ -41,7 +41,8 @@ fn deal(t: Tray, from: Point, out: &mut [i32]) -> Handed
     let space = out.len() / 5;
     let size = regions(t.count);
     let start = lanes::floors(t, from);
-    let sources = lanes::open(t, start, from);
+    let close = lanes::reach(start, size);
+    let sources = lanes::open(t, start, close);
     let mut queue = lanes::queue();
     let mut at = [0usize; 8];
     let mut end = [0usize; 8];
@@ -51,7 +52,7 @@ fn deal(t: Tray, from: Point, out: &mut [i32]) -> Handed
         start,
         size,
         room,
-        lanes::reach(start, size),
+        close,
         &mut queue,
         &mut at,
         &mut end,

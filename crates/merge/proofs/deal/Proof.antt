@@ -61,17 +61,17 @@ module _ (t : Tray) (J : ℕ → Job) (p : ℕ) (q : List ℤ) (xs es : List ℕ
 
 -- after the first fill
 module _ (r : tie.After-refill Inv-loop μ-loop) where
-  abbrev reach-of : tie.After-reach Inv-loop μ-loop
-  reach-of = r .before .before .before .before
-
   abbrev queue-of : tie.After-queue Inv-loop μ-loop
-  queue-of = reach-of .before
+  queue-of = r .before .before .before .before
 
   abbrev opened : tie.After-open Inv-loop μ-loop
   opened = queue-of .before
 
+  abbrev reach-of : tie.After-reach Inv-loop μ-loop
+  reach-of = opened .before
+
   abbrev floored : tie.After-floors Inv-loop μ-loop
-  floored = opened .before
+  floored = reach-of .before
 
   abbrev start-of : tie.Start Inv-loop μ-loop
   start-of = floored .before .before
@@ -275,16 +275,16 @@ few : (t : Tray) (n : ℕ) → n ≡ size t → n ≤ 8
 few t n e = omega (arith, min-le-right (t .count) 8)
 
 reach-requires : tie.Need-reach-requires Inv-loop μ-loop
-reach-requires c κs = let r = c .before .before .before in few (r .before .args .t) _ (r .regions .ensures)
+reach-requires c κs = let r = c .before in few (r .before .args .t) _ (r .regions .ensures)
 
 slice-aggregate-refill : tie.Need-slice-aggregate-refill Inv-loop μ-loop
-slice-aggregate-refill c = c .before .before .queue .ensures
+slice-aggregate-refill c = c .before .queue .ensures
 
 refill-requires : tie.Need-refill-requires Inv-loop μ-loop
 refill-requires c κs =
-    let q = c .before .before .before .before in
+    let q = c .before .before .before in
     let o = q .before in
-    let r = o .before .before in
+    let r = o .before .before .before in
     let l = few (r .before .args .t) _ (r .regions .ensures) in
     (l, omega arith, q .queue .ensures, opened-within (r .regions .result) l, (λ i b. let m = o .«open» .ensures i (omega (arith, r .regions .ensures)) in made-own _ _ m), refl, refl)
 
@@ -519,10 +519,10 @@ deal-spec =
     μ-loop
     regions-requires
     floors-requires
+    reach-requires
     open-requires
     queue-requires
     add-room
-    reach-requires
     slice-aggregate-refill
     refill-requires
     slice-aggregate-nearest

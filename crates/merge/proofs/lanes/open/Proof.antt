@@ -11,10 +11,10 @@ use Rattle.merge.proofs.lanes.open.Statement.{statement}
 use Rattle.merge.proofs.lanes.open.Tie as tie
 
 abbrev Inv-loop : tie.InvT-loop
-Inv-loop t from marks size sources₀ j₀ sources j = (j ≤ size) × (length sources ≡ 8) × ((i : ℕ) → i < j → Made (jobAt t i) (sourceAt sources i))
+Inv-loop t near marks size sources₀ j₀ sources j = (j ≤ size) × (length sources ≡ 8) × ((i : ℕ) → i < j → Made (jobAt t i) (sourceAt sources i))
 
 abbrev μ-loop : tie.MeasureT-loop
-μ-loop t from marks size sources₀ j₀ sources j = size - j
+μ-loop t near marks size sources₀ j₀ sources j = size - j
 
 size-requires : tie.Need-size-requires Inv-loop μ-loop
 size-requires c κs = search needs
