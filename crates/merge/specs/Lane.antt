@@ -64,12 +64,8 @@ module _ (J : Job) (q : List ℤ) (j a e : ℕ) (w : Place) where
   content-spent h = ap (λ (l : List ℕ). l ++ leftOf J w) (ranks-none q (2048 * j + 4 * a) a e h)
 
   -- a front is where the lane goes on, unless the queue is at its end
-  pub content-front : a ≤ e → (a ≡ e → content J q j a e w ≡ []) → frontOf q j a e ≡ placeOf (content J q j a e w)
-  content-front h t = go (decLt a e)
-    where
-      go : Dec (a < e) → frontOf q j a e ≡ placeOf (content J q j a e w)
-      go (yes l) = sym (front-live q j a e l) ∙ sym (ap placeOf (content-next l))
-      go (no n) = let s : a ≡ e = omega arith in sym (front-none q j a e (omega arith)) ∙ sym (ap placeOf (t s))
+  pub content-front : a < e → frontOf q j a e ≡ placeOf (content J q j a e w)
+  content-front l = sym (front-live q j a e l) ∙ sym (ap placeOf (content-next l))
 
   -- behind its front
   pub content-behind : (r : ℕ) (l : List ℕ) → frontOf q j a e ≡ at r → content J q j a e w ≡ r ∷ l → content J q j (a + 1) e w ≡ l
@@ -166,8 +162,8 @@ module _ (J : Job) (from : Place) (n s : ℕ) (old new pre post : List ℤ) (cou
   pub filled-few : n ≤ 512 → count ≤ 512
   filled-few h = omega (arith, g .count, length-take n ps, min-le-left n (length ps))
 
-  pub filled-none : 0 < n → 0 ≡ count → leftOf J w ≡ []
-  filled-none h c = goes-on ∙ none-taken n ps h (c ∙ g .count)
+  pub filled-none : 0 < n → 0 ≡ count → w ≡ ended
+  filled-none h c = g .place ∙ ap placeOf (none-taken n ps h (c ∙ g .count))
 
   -- the rest of the queue is as it was
   pub filled-elsewhere : (i : ℕ) (q : List ℤ) → s ≡ 2048 * i → n ≤ 512 → length new ≡ 4 * n → pre ≡ take s q → post ≡ drop (s + 4 * n) q → s + 4 * n ≤ length q → Elsewhere i q queue

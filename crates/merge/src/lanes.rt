@@ -1,16 +1,18 @@
 // Lanes: the next points of each region of a tray, a few of them in a queue, filled from the region's own walk.
 ghost use mathlib.Core.Path.{_≡_};
-ghost use mathlib.Core.Bool.{cond, false};
-ghost use mathlib.Core.List.{[]};
-ghost use Prim.Native.Nat.{ℕ, _+_, _*_, _≤_, _<_};
+ghost use mathlib.Core.Bool.{cond, true, false};
+ghost use Prim.Native.Nat.{ℕ, _+_, _*_, _/_, _≤_, _<_};
 ghost use lib.ListN.{length, getD};
-ghost use Rattle.lists.specs.Walk.{rankOf, spotOf};
+ghost use Rattle.ranks.specs.Rest.{at, ended};
+ghost use Rattle.ranks.specs.Handed.{Gave};
+ghost use Rattle.lists.specs.Walk.{numbersOf, rankOf, spotOf};
 ghost use Rattle.trays.specs.Nearer.{isAt};
-ghost use Rattle.trays.specs.Tray.{jobAt, size};
-ghost use Rattle.walk.specs.Prepared.{jobOf, Prepares};
+ghost use Rattle.merge.specs.Past.{past, nearestOf};
 ghost use Rattle.merge.specs.Lane.{pointAt, frontOf, leftOf, content, Elsewhere};
-ghost use Rattle.merge.specs.Lanes.{sourceAt, frontAt, nearestOf, Ready, Within, Stepped, Refilled};
+ghost use Rattle.merge.specs.Lanes.{Made, sourceAt, markAt, frontAt, Floors, Ready, Within, Stepped, Refilled};
+use crate::floor;
 use crate::order;
+use region::Job;
 use ring::Point;
 use trays::Tray;
 use walk::Handed;
@@ -20,8 +22,10 @@ use walk::Spot;
 // So many points of a region are queued at most.
 const LANE: usize = 512;
 
-// A region's job, ready for hand-outs.
+// A region's job, and if it is near, made ready for hand-outs.
 pub(crate) struct Source {
+    pub job: Job,
+    pub near: bool,
     pub walk: Prepared,
 }
 
@@ -30,19 +34,17 @@ pub(crate) struct Mark {
     pub spot: Spot,
 }
 
-// A lane behind a point: 1 if the point was its front, else 0; the place of its front, whether that is the queue's end, and the front.
+// A lane behind a point: 1 if the point was its front, else 0; the place of its front, and the front.
 struct Behind {
     held: u32,
     at: usize,
-    spent: bool,
     front: Spot,
 }
 
-// All lanes behind a point: the regions that listed it, the next point of them all, and whether a lane came to the end of its queue.
+// All lanes behind a point: the regions that listed it, and the nearest of the points that are queued.
 pub(crate) struct Step {
     pub mask: u32,
     pub spot: Spot,
-    pub spent: bool,
 }
 
 pub(crate) fn queue() -> [i32; 16384]
@@ -51,22 +53,53 @@ pub(crate) fn queue() -> [i32; 16384]
     [0; 16384]
 }
 
-// The jobs of a tray's regions, each with its bounds.
-pub(crate) fn open(t: Tray) -> [Source; 8]
+// Where the walks of a tray's regions go on from a point.
+pub(crate) fn floors(t: Tray, from: Point) -> [Mark; 8]
+    ensures { λ r. ⌜ Floors t (at (rankOf from)) r ⌝ }
+{
+    let size = trays::size(t);
+    let mut marks = [Mark { spot: Spot::Ended }; 8];
+    let mut j = 0;
+    while j < size {
+        let spot = floor::floor(trays::job(t, j), from);
+        marks[j] = Mark { spot: spot };
+        j += 1;
+    }
+    marks
+}
+
+// The jobs of a tray's regions, with bounds where its walk goes on near the nearest spot.
+pub(crate) fn open(t: Tray, marks: [Mark; 8], near: Spot) -> [Source; 8]
     ensures { λ r. ⌜ Ready t r ⌝ }
 {
     let size = trays::size(t);
-    let mut sources = [Source {
-        walk: Prepared::Refused(trays::job(t, 0)),
-    }; 8];
+    let mut sources = [made(trays::job(t, 0), false); 8];
     let mut j = 0;
     while j < size {
-        sources[j] = Source {
-            walk: walk::prepare(trays::job(t, j)),
-        };
+        let job = trays::job(t, j);
+        let m = marks[j];
+        let spot = m.spot;
+        sources[j] = made(job, floor::is_near(spot, near));
         j += 1;
     }
     sources
+}
+
+fn made(job: Job, near: bool) -> Source
+    ensures { λ r. ⌜ Made job r ⌝ }
+{
+    if near {
+        return Source {
+            job: job,
+            near: true,
+            walk: walk::prepare(job),
+        };
+    }
+    Source {
+        job: job,
+        near: false,
+        walk: Prepared::Refused(job),
+    }
 }
 
 // The point at a place of the queue.
@@ -96,14 +129,13 @@ fn front(queue: &[i32], j: usize, i: usize, e: usize) -> Spot
 // The lane of region number j behind a point that none comes before.
 fn pass(queue: &[i32], j: usize, i: usize, e: usize, v: Point) -> Behind
     requires { ⌜ (j < 8) × (i ≤ e) × (e ≤ 512) × (16384 ≡ length (now queue)) ⌝ }
-    ensures { λ r. ⌜ (r .held ≡ cond (isAt (frontOf (now (queue .entry)) j i e) (rankOf v)) 1 0) × (r .at ≡ i + r .held) × (r .at ≤ e) × (spotOf (r .front) ≡ frontOf (now (queue .entry)) j (r .at) e) × (r .spent ≡ false → r .at ≡ e → i ≡ e) ⌝ }
+    ensures { λ r. ⌜ (r .held ≡ cond (isAt (frontOf (now (queue .entry)) j i e) (rankOf v)) 1 0) × (r .at ≡ i + r .held) × (r .at ≤ e) × (spotOf (r .front) ≡ frontOf (now (queue .entry)) j (r .at) e) ⌝ }
 {
     let f = front(queue, j, i, e);
     if !order::is_at(f, v) {
         return Behind {
             held: 0,
             at: i,
-            spent: false,
             front: f,
         };
     }
@@ -111,7 +143,6 @@ fn pass(queue: &[i32], j: usize, i: usize, e: usize, v: Point) -> Behind
     Behind {
         held: 1,
         at: n,
-        spent: n == e,
         front: front(queue, j, n, e),
     }
 }
@@ -125,12 +156,11 @@ pub(crate) fn advance(
     v: Point,
 ) -> Step
     requires { ⌜ (size ≤ 8) × (16384 ≡ length (now queue)) × Within size (now at) (now end) × (length (now at) ≡ 8) ⌝ }
-    ensures { λ r. ⌜ Stepped (now (queue .entry)) (now (at .entry)) (now (at .exit)) (now (end .entry)) size (rankOf v) (r .mask) (spotOf (r .spot)) (r .spent) ⌝ }
+    ensures { λ r. ⌜ Stepped (now (queue .entry)) (now (at .entry)) (now (at .exit)) (now (end .entry)) size (rankOf v) (r .mask) (spotOf (r .spot)) ⌝ }
 {
     let mut mask: u32 = 0;
     let mut bit: u32 = 1;
     let mut spot = Spot::Ended;
-    let mut spent = false;
     let mut j = 0;
     while j < size {
         let p = pass(queue, j, at[j], end[j], v);
@@ -139,19 +169,15 @@ pub(crate) fn advance(
         bit *= 2;
         let f = p.front;
         spot = order::nearer(spot, f);
-        if p.spent {
-            spent = true;
-        }
         j += 1;
     }
     Step {
         mask: mask,
         spot: spot,
-        spent: spent,
     }
 }
 
-// The next point of all lanes.
+// The nearest of the points that are queued.
 pub(crate) fn nearest(queue: &[i32], at: &[usize; 8], end: &[usize; 8], size: usize) -> Spot
     requires { ⌜ (size ≤ 8) × (16384 ≡ length (now queue)) × Within size (now at) (now end) ⌝ }
     ensures { λ r. ⌜ spotOf r ≡ nearestOf size (frontAt (now (queue .entry)) (now (at .entry)) (now (end .entry))) ⌝ }
@@ -183,37 +209,76 @@ fn least(a: usize, b: usize) -> usize
     if a < b { a } else { b }
 }
 
+// A hand-out of a region's job.
+fn walk_on(s: Source, from: Spot, out: &mut [i32]) -> Handed
+    requires { ⌜ Made (s .job) s ⌝ }
+    ensures { λ r. ⌜ Gave numbersOf 4 (leftOf (s .job) (spotOf from)) (now (out .entry)) (length (now (out .entry)) / 4) (r .count) (now (out .exit)) (spotOf (r .spot)) ⌝ }
+{
+    if s.near {
+        let w = s.walk;
+        return walk::hand_out_of(w, from, out);
+    }
+    walk::hand_out(s.job, from, out)
+}
+
 // The queue of region number j from a spot on: n of its points, or all if they are fewer.
 fn fill(s: Source, n: usize, j: usize, from: Spot, queue: &mut [i32]) -> Handed
-    requires { ⌜ Prepares (s .walk) × (0 < n) × (n ≤ 512) × (j < 8) × (16384 ≡ length (now queue)) ⌝ }
-    ensures { λ r. ⌜ (content (jobOf (s .walk)) (now (queue .exit)) j 0 (r .count) (spotOf (r .spot)) ≡ leftOf (jobOf (s .walk)) (spotOf from)) × (r .count ≤ 512) × (0 ≡ r .count → leftOf (jobOf (s .walk)) (spotOf (r .spot)) ≡ []) × Elsewhere j (now (queue .entry)) (now (queue .exit)) ⌝ }
+    requires { ⌜ Made (s .job) s × (0 < n) × (n ≤ 512) × (j < 8) × (16384 ≡ length (now queue)) ⌝ }
+    ensures { λ r. ⌜ (content (s .job) (now (queue .exit)) j 0 (r .count) (spotOf (r .spot)) ≡ leftOf (s .job) (spotOf from)) × (r .count ≤ 512) × (0 ≡ r .count → spotOf (r .spot) ≡ ended) × Elsewhere j (now (queue .entry)) (now (queue .exit)) ⌝ }
 {
     let start = 2048 * j;
     let end = start + 4 * n;
-    let w = s.walk;
-    walk::hand_out_of(w, from, &mut queue[start..end])
+    walk_on(s, from, &mut queue[start..end])
 }
 
-// Lanes that came to the end of their queues go on: at most so many points of each are queued as there is room for.
+// The nearest of the marks.
+pub(crate) fn reach(marks: [Mark; 8], size: usize) -> Spot
+    requires { ⌜ size ≤ 8 ⌝ }
+    ensures { λ r. ⌜ spotOf r ≡ nearestOf size (markAt marks) ⌝ }
+{
+    let mut spot = Spot::Ended;
+    let mut j = 0;
+    while j < size {
+        let m = marks[j];
+        let f = m.spot;
+        spot = order::nearer(spot, f);
+        j += 1;
+    }
+    spot
+}
+
+// Whether a lane is at its queue's end, and its walk goes on before or at the front.
+fn is_due(i: usize, e: usize, m: Mark, front: Spot) -> bool
+    ensures { λ r. ⌜ (r ≡ true → i ≡ e) × (r ≡ false → i ≡ e → past (spotOf (m .spot)) (spotOf front) ≡ true) ⌝ }
+{
+    if i == e {
+        let spot = m.spot;
+        return !order::past(spot, front);
+    }
+    false
+}
+
+// Lanes that came to the end of their queues go on, if the front has come to their marks: at most so many points of each are queued as there is room for.
 pub(crate) fn refill(
     sources: [Source; 8],
     marks: [Mark; 8],
     size: usize,
     room: usize,
+    front: Spot,
     queue: &mut [i32],
     at: &mut [usize; 8],
     end: &mut [usize; 8],
 ) -> [Mark; 8]
-    requires { ⌜ (size ≤ 8) × (0 < room) × (16384 ≡ length (now queue)) × Within size (now at) (now end) × ((i : ℕ) → i < size → Prepares (sourceAt sources i)) × (length (now at) ≡ 8) × (length (now end) ≡ 8) ⌝ }
-    ensures { λ r. ⌜ Refilled (λ i. jobOf (sourceAt sources i)) size (now (queue .entry)) (now (at .entry)) (now (end .entry)) marks (now (queue .exit)) (now (at .exit)) (now (end .exit)) r ⌝ }
+    requires { ⌜ (size ≤ 8) × (0 < room) × (16384 ≡ length (now queue)) × Within size (now at) (now end) × ((i : ℕ) → i < size → Made (sourceAt sources i .job) (sourceAt sources i)) × (length (now at) ≡ 8) × (length (now end) ≡ 8) ⌝ }
+    ensures { λ r. ⌜ Refilled (λ i. sourceAt sources i .job) size (now (queue .entry)) (now (at .entry)) (now (end .entry)) marks (spotOf front) (now (queue .exit)) (now (at .exit)) (now (end .exit)) r ⌝ }
 {
     let mut after = marks;
     let mut j = 0;
     while j < size {
         let e = end[j];
-        if at[j] == e {
+        let m = after[j];
+        if is_due(at[j], e, m, front) {
             let s = sources[j];
-            let m = after[j];
             let from = m.spot;
             let h = fill(s, least(grown(e), room), j, from, queue);
             let spot = h.spot;

@@ -11,6 +11,7 @@ ghost use Rattle.cuts.specs.Digits.{span};
 ghost use Rattle.lists.specs.Walk.{rankOf, numbersOf, spotOf};
 ghost use Rattle.trays.specs.Tray.{anyAt, fiveOf, left};
 
+mod floor;
 mod lanes;
 mod order;
 
@@ -39,23 +40,27 @@ fn deal(t: Tray, from: Point, out: &mut [i32]) -> Handed
 {
     let space = out.len() / 5;
     let size = regions(t.count);
-    let sources = lanes::open(t);
+    let start = lanes::floors(t, from);
+    let close = lanes::reach(start, size);
+    let sources = lanes::open(t, start, close);
     let mut queue = lanes::queue();
     let mut at = [0usize; 8];
     let mut end = [0usize; 8];
-    let start = [Mark {
-        spot: Spot::At(from),
-    }; 8];
-    let mut after = lanes::refill(
+    let room = space / 2 + 1;
+    let near = lanes::refill(
         sources,
         start,
         size,
-        space / 2 + 1,
+        room,
+        close,
         &mut queue,
         &mut at,
         &mut end,
     );
+    let g = lanes::nearest(&queue, &at, &end, size);
+    let mut after = lanes::refill(sources, near, size, room, g, &mut queue, &mut at, &mut end);
     let mut f = lanes::nearest(&queue, &at, &end, size);
+    let mut far = lanes::reach(after, size);
     let mut k = 0;
     while k < space {
         match f {
@@ -65,19 +70,21 @@ fn deal(t: Tray, from: Point, out: &mut [i32]) -> Handed
                 put_five(out, 5 * k, v, s.mask);
                 k += 1;
                 f = s.spot;
-                if s.spent {
+                if !order::past(far, f) {
                     let room = space - k + 1;
                     let marks = lanes::refill(
                         sources,
                         after,
                         n,
                         room,
+                        f,
                         &mut queue,
                         &mut at,
                         &mut end,
                     );
                     after = marks;
                     f = lanes::nearest(&queue, &at, &end, n);
+                    far = lanes::reach(after, n);
                 }
             }
             Spot::Ended => {

@@ -3,6 +3,7 @@ ghost use mathlib.Core.Path.{_≡_};
 ghost use Rattle.points.specs.Points.{rankOf};
 ghost use Rattle.lists.specs.Walk.{spotOf};
 ghost use Rattle.trays.specs.Nearer.{nearer, isAt};
+ghost use Rattle.merge.specs.Past.{past};
 use points::order;
 use ring::Point;
 use walk::Spot;
@@ -38,6 +39,26 @@ pub(crate) fn is_at(s: Spot, v: Point) -> bool
 {
     match s {
         Spot::At(p) => order::is_same(p, v),
+        Spot::Ended => false,
+    }
+}
+
+// Whether a spot lies past another: behind it, or at the end.
+pub(crate) fn past(s: Spot, f: Spot) -> bool
+    ensures { λ r. ⌜ r ≡ past (spotOf s) (spotOf f) ⌝ }
+{
+    match s {
+        Spot::At(p) => is_before(f, p),
+        Spot::Ended => true,
+    }
+}
+
+// Whether a spot comes before a point.
+fn is_before(f: Spot, p: Point) -> bool
+    ensures { λ r. ⌜ r ≡ past (spotOf (Spot.At p)) (spotOf f) ⌝ }
+{
+    match f {
+        Spot::At(q) => order::before(q, p),
         Spot::Ended => false,
     }
 }

@@ -5,14 +5,15 @@ use Prim.Native.Nat.{ℕ, suc, _+_, _-_, _*_, _/_, _<_, _≤_}
 use native.Mathlib.Nat.{pow-le-pow-right, min-le-right}
 use native.Mathlib.Omega.{arith}
 use borrow.Author.Needs.{needs}
+use borrow.Author.Tests.{not-false}
 use lib.Seq.{sets, length-sets}
 use lib.ListN.{length, set, replicate}
 use lib.IntN.{ℤ, pos}
 use Rattle.ring.specs.declared.Point.{Point}
-use Rattle.walk.specs.Prepared.{jobOf}
 use Rattle.merge.specs.declared.lanes.Source.{Source}
 use Rattle.merge.specs.declared.lanes.Mark.{Mark}
-use Rattle.merge.specs.Lanes.{sourceAt, frontAt, nearestOf, Stepped, Refilled, Lanes, Has, Stands, nearest-is, stands-on, step-mask, step-has, step-lanes, refilled, opened-within, opened-has, below-top}
+use Rattle.merge.specs.Past.{Near, nearestOf}
+use Rattle.merge.specs.Lanes.{sourceAt, markAt, frontAt, made-own, Within, Told′, Stepped, Refilled, Lanes, Has, Stands, fronts-on, nearest-is, told-near, told-all, stands-on, step-mask, step-has, refilled, opened-within, opened-has, below-top}
 use Rattle.trays.specs.Bits.{bits-below}
 use Rattle.trays.specs.Tray.{anyAt, maskAt, fiveOf, left, size, holds, jobAt}
 use Rattle.trays.specs.declared.Tray.{Tray}
@@ -27,75 +28,147 @@ use Rattle.ranks.specs.Rest.{Place, placeOf, leftAt, left-found}
 use Rattle.merge.proofs.deal.Statement.{statement}
 use Rattle.merge.proofs.deal.Tie as tie
 
--- the jobs that are ready
+-- the jobs of the sources
 abbrev jobsOf : List Source → ℕ → Job
-jobsOf ls i = jobOf (sourceAt ls i)
+jobsOf ls i = sourceAt ls i .job
 
 abbrev Inv-loop : tie.InvT-loop
-Inv-loop t out₀ space size sources queue₀ at₀ end₀ after₀ f₀ k₀ out queue at end after f k =
+Inv-loop t out₀ space size′ sources queue₀ at₀ end₀ room after₀ f₀ far₀ k₀ out queue at end after f far k =
     Dealt (fiveOf t) 5 (leftAt (anyAt t) (top span) (spotOf f₀)) out₀ k out (spotOf f) × (k ≤ space) × (length out ≡ length out₀) × (length queue ≡ 16384) × (length at ≡ 8) × (length end ≡ 8)
     × Stands t (jobsOf sources) f queue at end after
+    × (spotOf far ≡ nearestOf (size t) (markAt after))
 
 abbrev μ-loop : tie.MeasureT-loop
-μ-loop t out₀ space size sources queue₀ at₀ end₀ after₀ f₀ k₀ out queue at end after f k = space - k
+μ-loop t out₀ space size′ sources queue₀ at₀ end₀ room after₀ f₀ far₀ k₀ out queue at end after f far k = space - k
+
+-- lanes whose nearest front w was found: those that are filled as far as that go on past the place where the tray's list does
+module _ (t : Tray) (J : ℕ → Job) (p : ℕ) (q : List ℤ) (xs es : List ℕ) (ws : List Mark) (w : Place) (has : Has t J p q xs es ws) (within : Within (size t) xs es) (front : w ≡ nearestOf (size t) (frontAt q xs es)) where
+  reached : Near (placeOf (left t p)) w
+  reached = subst (Near (placeOf (left t p))) (sym front) (fronts-on t J p q xs es ws has within)
+
+  module _ (q′ : List ℤ) (xs′ es′ : List ℕ) (ws′ : List Mark) (f : Refilled J (size t) q xs es ws w q′ xs′ es′ ws′) where
+    again-has : Has t J p q′ xs′ es′ ws′
+    again-has = refilled t J p q xs es ws w q′ xs′ es′ ws′ has f
+
+    again-told : Told′ (size t) xs′ es′ ws′ (placeOf (left t p))
+    again-told = told-near (size t) xs′ es′ ws′ w (placeOf (left t p)) reached (f .told)
+
+    again-spot : nearestOf (size t) (frontAt q′ xs′ es′) ≡ placeOf (left t p)
+    again-spot = nearest-is t J p q′ xs′ es′ ws′ again-has (f .within) again-told
+
+    again-stands : (s : Spot) → spotOf s ≡ placeOf (left t p) → Stands t J s q′ xs′ es′ ws′
+    again-stands s e = stands-on t J p q′ xs′ es′ ws′ s e again-has (f .within) again-told
 
 -- after the first fill
 module _ (r : tie.After-refill Inv-loop μ-loop) where
-  abbrev start-of : tie.Start Inv-loop μ-loop
-  start-of = r .before .before .before .before .before .before .before
+  abbrev queue-of : tie.After-queue Inv-loop μ-loop
+  queue-of = r .before .before .before .before
 
   abbrev opened : tie.After-open Inv-loop μ-loop
-  opened = r .before .before .before .before .before
+  opened = queue-of .before
+
+  abbrev reach-of : tie.After-reach Inv-loop μ-loop
+  reach-of = opened .before
+
+  abbrev floored : tie.After-floors Inv-loop μ-loop
+  floored = reach-of .before
+
+  abbrev start-of : tie.Start Inv-loop μ-loop
+  start-of = floored .before .before
 
   abbrev tray : Tray
   tray = start-of .args .t
+
+  abbrev place : ℕ
+  place = rankOf (start-of .args .from)
 
   abbrev jobs : ℕ → Job
   jobs = jobsOf (opened .«open» .result)
 
   -- so many regions count
-  sized : opened .before .regions .result ≡ size tray
-  sized = opened .before .regions .ensures
+  sized : floored .before .regions .result ≡ size tray
+  sized = floored .before .regions .ensures
 
   abbrev first-queue : List ℤ
-  first-queue = r .refill .last .1 .1 .1 .1 .0
+  first-queue = r .refill .last .1 .1 .1 .1 .1 .0
 
   abbrev first-at : List ℕ
-  first-at = r .refill .last .1 .1 .1 .1 .1 .0
+  first-at = r .refill .last .1 .1 .1 .1 .1 .1 .0
 
   abbrev first-end : List ℕ
-  first-end = r .refill .last .1 .1 .1 .1 .1 .1 .0
+  first-end = r .refill .last .1 .1 .1 .1 .1 .1 .1 .0
 
   abbrev none : List ℕ
   none = replicate 8 0
 
-  abbrev marks : List Mark
-  marks = replicate 8 (record { spot = S.At (start-of .args .from) })
-
   first-long : length first-queue ≡ 16384
   first-long =
-      let same : length first-queue ≡ length (r .before .before .before .before .queue .result) = search needs in
-      same ∙ sym (r .before .before .before .before .queue .ensures)
+      let same : length first-queue ≡ length (queue-of .queue .result) = search needs in
+      same ∙ sym (queue-of .queue .ensures)
 
-  first-lanes : Lanes tray jobs (rankOf (start-of .args .from)) first-queue first-at first-end (r .refill .result)
-  first-lanes =
-      refilled tray jobs (rankOf (start-of .args .from)) (r .before .before .before .before .queue .result) none none marks first-queue first-at first-end (r .refill .result)
-      (opened-has tray jobs (r .before .before .before .before .queue .result) (start-of .args .from) (λ i b. opened .«open» .ensures i b .0))
-      (subst (λ (n : ℕ). Refilled jobs n (r .before .before .before .before .queue .result) none none marks first-queue first-at first-end (r .refill .result)) sized (r .refill .ensures))
+  first-fill : Refilled jobs (size tray) (queue-of .queue .result) none none (floored .floors .result) (spotOf (reach-of .reach .result)) first-queue first-at first-end (r .refill .result)
+  first-fill = subst (λ (n : ℕ). Refilled jobs n (queue-of .queue .result) none none (floored .floors .result) (spotOf (reach-of .reach .result)) first-queue first-at first-end (r .refill .result)) sized (r .refill .ensures)
 
--- at the first point
+  first-has : Has tray jobs place first-queue first-at first-end (r .refill .result)
+  first-has =
+      refilled tray jobs place (queue-of .queue .result) none none (floored .floors .result) (spotOf (reach-of .reach .result)) first-queue first-at first-end (r .refill .result)
+      (opened-has tray jobs (queue-of .queue .result) (floored .floors .result) place (λ i b. opened .«open» .ensures i b .job) (floored .floors .ensures)) first-fill
+
+-- the first front is found
 module _ (n : tie.After-nearest Inv-loop μ-loop) where
   abbrev fill-of : tie.After-refill Inv-loop μ-loop
   fill-of = n .before .before .before .before .before
 
-  first-spot : spotOf (n .nearest .result) ≡ placeOf (left (tray fill-of) (rankOf (start-of fill-of .args .from)))
+  first-front : spotOf (n .nearest .result) ≡ nearestOf (size (tray fill-of)) (frontAt (first-queue fill-of) (first-at fill-of) (first-end fill-of))
+  first-front = n .nearest .ensures ∙ ap (λ (m : ℕ). nearestOf m (frontAt (first-queue fill-of) (first-at fill-of) (first-end fill-of))) (sized fill-of)
+
+-- and the lanes are filled that it has come to
+module _ (x : tie.After-refill2 Inv-loop μ-loop) where
+  abbrev front-of : tie.After-nearest Inv-loop μ-loop
+  front-of = x .before .before .before .before
+
+  abbrev root : tie.After-refill Inv-loop μ-loop
+  root = fill-of front-of
+
+  abbrev second-queue : List ℤ
+  second-queue = x .refill2 .last .1 .1 .1 .1 .1 .0
+
+  abbrev second-at : List ℕ
+  second-at = x .refill2 .last .1 .1 .1 .1 .1 .1 .0
+
+  abbrev second-end : List ℕ
+  second-end = x .refill2 .last .1 .1 .1 .1 .1 .1 .1 .0
+
+  second-long : length second-queue ≡ 16384
+  second-long =
+      let same : length second-queue ≡ length (first-queue root) = search needs in
+      same ∙ first-long root
+
+  second-fill : Refilled (jobs root) (size (tray root)) (first-queue root) (first-at root) (first-end root) (root .refill .result) (spotOf (front-of .nearest .result)) second-queue second-at second-end (x .refill2 .result)
+  second-fill =
+      subst (λ (n : ℕ). Refilled (jobs root) n (first-queue root) (first-at root) (first-end root) (root .refill .result) (spotOf (front-of .nearest .result)) second-queue second-at second-end (x .refill2 .result)) (sized root) (x .refill2 .ensures)
+
+-- at the first point
+module _ (n : tie.After-nearest2 Inv-loop μ-loop) where
+  abbrev fill2-of : tie.After-refill2 Inv-loop μ-loop
+  fill2-of = n .before .before .before .before .before
+
+  abbrev ground : tie.After-refill Inv-loop μ-loop
+  ground = root fill2-of
+
+  first-spot : spotOf (n .nearest2 .result) ≡ placeOf (left (tray ground) (place ground))
   first-spot =
-      n .nearest .ensures ∙ ap (λ (m : ℕ). nearestOf m (frontAt (first-queue fill-of) (first-at fill-of) (first-end fill-of))) (sized fill-of)
-      ∙ nearest-is (tray fill-of) (jobs fill-of) (rankOf (start-of fill-of .args .from)) (first-queue fill-of) (first-at fill-of) (first-end fill-of) (fill-of .refill .result) (first-lanes fill-of)
+      n .nearest2 .ensures ∙ ap (λ (m : ℕ). nearestOf m (frontAt (second-queue fill2-of) (second-at fill2-of) (second-end fill2-of))) (sized ground)
+      ∙ again-spot (tray ground) (jobs ground) (place ground) (first-queue ground) (first-at ground) (first-end ground) (ground .refill .result) (spotOf (front-of fill2-of .nearest .result)) (first-has ground) (first-fill ground .within) (first-front (front-of fill2-of)) (second-queue fill2-of) (second-at fill2-of) (second-end fill2-of) (fill2-of .refill2 .result) (second-fill fill2-of)
+
+  first-stands : Stands (tray ground) (jobs ground) (n .nearest2 .result) (second-queue fill2-of) (second-at fill2-of) (second-end fill2-of) (fill2-of .refill2 .result)
+  first-stands =
+      again-stands (tray ground) (jobs ground) (place ground) (first-queue ground) (first-at ground) (first-end ground) (ground .refill .result) (spotOf (front-of fill2-of .nearest .result)) (first-has ground) (first-fill ground .within) (first-front (front-of fill2-of)) (second-queue fill2-of) (second-at fill2-of) (second-end fill2-of) (fill2-of .refill2 .result) (second-fill fill2-of)
+      (n .nearest2 .result) first-spot
 
   -- what is left where the first point stands is what is left from the point on
-  same-left : leftAt (anyAt (tray fill-of)) (top span) (spotOf (n .nearest .result)) ≡ left (tray fill-of) (rankOf (start-of fill-of .args .from))
-  same-left = left-found (anyAt (tray fill-of)) (top span) (rankOf (start-of fill-of .args .from)) _ first-spot
+  same-left : leftAt (anyAt (tray ground)) (top span) (spotOf (n .nearest2 .result)) ≡ left (tray ground) (place ground)
+  same-left = left-found (anyAt (tray ground)) (top span) (place ground) _ first-spot
 
 mask-small : (t : Tray) (r : ℕ) → maskAt t r < 256
 mask-small t r =
@@ -116,7 +189,7 @@ module _ (f : tie.After-f Inv-loop μ-loop) where
   loop-of = f .before .before .before
 
   abbrev from-of : tie.After-refill Inv-loop μ-loop
-  from-of = fill-of (loop-of .before)
+  from-of = ground (loop-of .before .before)
 
   abbrev point : Point
   point = f .f .given .0 .0
@@ -126,7 +199,7 @@ module _ (f : tie.After-f Inv-loop μ-loop) where
       subst (λ (w : Spot). Stands (tray from-of) (jobs from-of) w (loop-of .loop .queue) (loop-of .loop .at) (loop-of .loop .end) (loop-of .loop .after)) (f .f .given .1) (loop-of .loop .inv .6)
 
   in-range : rankOf point < top span
-  in-range = below-top (anyAt (tray from-of)) (top span) (loop-of .loop .k) (rankOf point) (spotOf (loop-of .before .nearest .result)) (sym (loop-of .loop .inv .0 .place) ∙ ap spotOf (f .f .given .1))
+  in-range = below-top (anyAt (tray from-of)) (top span) (loop-of .loop .k) (rankOf point) (spotOf (loop-of .before .before .nearest2 .result)) (sym (loop-of .loop .inv .0 .place) ∙ ap spotOf (f .f .given .1))
 
 -- behind it
 module _ (a : tie.After-advance Inv-loop μ-loop) where
@@ -145,15 +218,15 @@ module _ (a : tie.After-advance Inv-loop μ-loop) where
   counted : a .before .before .before .before .regions2 .result ≡ size (tray base)
   counted = a .before .before .before .before .regions2 .ensures
 
-  stepped : Stepped (now-of .loop .queue) (now-of .loop .at) next-at (now-of .loop .end) (size (tray base)) (rankOf (point at-f)) (a .advance .result .mask) (spotOf (a .advance .result .spot)) (a .advance .result .spent)
+  stepped : Stepped (now-of .loop .queue) (now-of .loop .at) next-at (now-of .loop .end) (size (tray base)) (rankOf (point at-f)) (a .advance .result .mask) (spotOf (a .advance .result .spot))
   stepped =
-      subst (λ (n : ℕ). Stepped (now-of .loop .queue) (now-of .loop .at) next-at (now-of .loop .end) n (rankOf (point at-f)) (a .advance .result .mask) (spotOf (a .advance .result .spot)) (a .advance .result .spent)) counted (a .advance .ensures)
+      subst (λ (n : ℕ). Stepped (now-of .loop .queue) (now-of .loop .at) next-at (now-of .loop .end) n (rankOf (point at-f)) (a .advance .result .mask) (spotOf (a .advance .result .spot))) counted (a .advance .ensures)
 
   mask-is : a .advance .result .mask ≡ maskAt (tray base) (rankOf (point at-f))
-  mask-is = step-mask (tray base) (jobs base) (rankOf (point at-f)) (in-range at-f) (now-of .loop .queue) (now-of .loop .at) next-at (now-of .loop .end) (now-of .loop .after) _ _ _ (lanes-here at-f) stepped
+  mask-is = step-mask (tray base) (jobs base) (rankOf (point at-f)) (in-range at-f) (now-of .loop .queue) (now-of .loop .at) next-at (now-of .loop .end) (now-of .loop .after) _ _ (lanes-here at-f) stepped
 
   has-is : Has (tray base) (jobs base) (suc (rankOf (point at-f))) (now-of .loop .queue) next-at (now-of .loop .end) (now-of .loop .after)
-  has-is = step-has (tray base) (jobs base) (rankOf (point at-f)) (in-range at-f) (now-of .loop .queue) (now-of .loop .at) next-at (now-of .loop .end) (now-of .loop .after) _ _ _ (lanes-here at-f) stepped
+  has-is = step-has (tray base) (jobs base) (rankOf (point at-f)) (in-range at-f) (now-of .loop .queue) (now-of .loop .at) next-at (now-of .loop .end) (now-of .loop .after) _ _ (lanes-here at-f) stepped
 
 -- the point is written
 module _ (o : tie.After-out Inv-loop μ-loop) where
@@ -170,12 +243,12 @@ module _ (o : tie.After-out Inv-loop μ-loop) where
   new = sets (here .loop .out) (5 * here .loop .k) (fiveOf (tray (base adv)) (rankOf (point (at-f adv))))
 
   dealt : (w : Place) → w ≡ placeOf (left (tray (base adv)) (suc (rankOf (point (at-f adv)))))
-      → Dealt (fiveOf (tray (base adv))) 5 (leftAt (anyAt (tray (base adv))) (top span) (spotOf (here .before .nearest .result))) old (here .loop .k + 1) new w
+      → Dealt (fiveOf (tray (base adv))) 5 (leftAt (anyAt (tray (base adv))) (top span) (spotOf (here .before .before .nearest2 .result))) old (here .loop .k + 1) new w
   dealt w e =
       let i = here .loop .inv in
       let d = rw (ap spotOf (at-f adv .f .given .1)) at (i .0) in
       let test = at-f adv .before .before .loop-test .taken in
-      dealt-more (fiveOf (tray (base adv))) 5 (λ x. refl) (anyAt (tray (base adv))) (top span) (spotOf (here .before .nearest .result)) old (here .loop .k) (here .loop .out) (rankOf (point (at-f adv))) w d (omega arith) e
+      dealt-more (fiveOf (tray (base adv))) 5 (λ x. refl) (anyAt (tray (base adv))) (top span) (spotOf (here .before .before .nearest2 .result)) old (here .loop .k) (here .loop .out) (rankOf (point (at-f adv))) w d (omega arith) e
 
   written : o .before .put-five .last .0 ≡ new
   written = o .before .put-five .ensures ∙ five (tray (base adv)) (rankOf (point (at-f adv))) (here .loop .out) (5 * here .loop .k) (adv .advance .result .mask) (mask-is adv)
@@ -186,14 +259,23 @@ module _ (o : tie.After-out Inv-loop μ-loop) where
 regions-requires : tie.Need-regions-requires Inv-loop μ-loop
 regions-requires c κs = search needs
 
+floors-requires : tie.Need-floors-requires Inv-loop μ-loop
+floors-requires c κs = search needs
+
 open-requires : tie.Need-open-requires Inv-loop μ-loop
 open-requires c κs = search needs
 
 queue-requires : tie.Need-queue-requires Inv-loop μ-loop
 queue-requires c κs = search needs
 
-add-refill : tie.Need-add-refill Inv-loop μ-loop
-add-refill c = omega arith
+add-room : tie.Need-add-room Inv-loop μ-loop
+add-room c = omega arith
+
+few : (t : Tray) (n : ℕ) → n ≡ size t → n ≤ 8
+few t n e = omega (arith, min-le-right (t .count) 8)
+
+reach-requires : tie.Need-reach-requires Inv-loop μ-loop
+reach-requires c κs = let r = c .before in few (r .before .args .t) _ (r .regions .ensures)
 
 slice-aggregate-refill : tie.Need-slice-aggregate-refill Inv-loop μ-loop
 slice-aggregate-refill c = c .before .queue .ensures
@@ -202,9 +284,9 @@ refill-requires : tie.Need-refill-requires Inv-loop μ-loop
 refill-requires c κs =
     let q = c .before .before .before in
     let o = q .before in
-    let z = o .before .regions .ensures in
-    let m = min-le-right (o .before .before .args .t .count) 8 in
-    (omega arith, omega arith, q .queue .ensures, opened-within (o .before .regions .result) (omega arith), λ i b. o .«open» .ensures i (omega arith) .1, refl, refl)
+    let r = o .before .before .before in
+    let l = few (r .before .args .t) _ (r .regions .ensures) in
+    (l, omega arith, q .queue .ensures, opened-within (r .regions .result) l, (λ i b. let m = o .«open» .ensures i (omega (arith, r .regions .ensures)) in made-own _ _ m), refl, refl)
 
 slice-aggregate-nearest : tie.Need-slice-aggregate-nearest Inv-loop μ-loop
 slice-aggregate-nearest c = sym (first-long (c .before .before))
@@ -212,21 +294,40 @@ slice-aggregate-nearest c = sym (first-long (c .before .before))
 nearest-requires : tie.Need-nearest-requires Inv-loop μ-loop
 nearest-requires c κs =
     let r = c .before .before .before .before in
-    let z = sized r in
-    let m = min-le-right (tray r .count) 8 in
-    (omega arith, sym (first-long r), r .refill .ensures .within)
+    (few (tray r) _ (sized r), sym (first-long r), r .refill .ensures .within)
+
+slice-aggregate-refill-2 : tie.Need-slice-aggregate-refill-2 Inv-loop μ-loop
+slice-aggregate-refill-2 c = sym (first-long (fill-of (c .before)))
+
+refill-requires-2 : tie.Need-refill-requires-2 Inv-loop μ-loop
+refill-requires-2 c κs =
+    let r = fill-of (c .before .before .before) in
+    (few (tray r) _ (sized r), omega arith, sym (first-long r), r .refill .ensures .within, (λ i b. made-own _ _ (opened r .«open» .ensures i (omega (arith, sized r)))), r .refill .ensures .long .0, r .refill .ensures .long .1)
+
+slice-aggregate-nearest-2 : tie.Need-slice-aggregate-nearest-2 Inv-loop μ-loop
+slice-aggregate-nearest-2 c = sym (second-long (c .before .before))
+
+nearest-requires-2 : tie.Need-nearest-requires-2 Inv-loop μ-loop
+nearest-requires-2 c κs =
+    let x = c .before .before .before .before in
+    (few (tray (root x)) _ (sized (root x)), sym (second-long x), x .refill2 .ensures .within)
+
+reach-requires-2 : tie.Need-reach-requires-2 Inv-loop μ-loop
+reach-requires-2 c κs = let r = ground c in few (tray r) _ (sized r)
 
 loop-holds : tie.Need-loop-holds Inv-loop μ-loop
 loop-holds c =
-    let r = fill-of c in
-    let t = tray r in (
-      dealt-none (fiveOf t) 5 (λ x. refl) _ _ _ (first-spot c ∙ sym (ap placeOf (same-left c))),
+    let n = c .before in
+    let x = fill2-of n in
+    let t = tray (ground n) in (
+      dealt-none (fiveOf t) 5 (λ x. refl) _ _ _ (first-spot n ∙ sym (ap placeOf (same-left n))),
       omega arith,
       refl,
-      first-long r,
-      r .refill .ensures .long .0,
-      r .refill .ensures .long .1,
-      stands-on t (jobs r) (rankOf (start-of r .args .from)) (first-queue r) (first-at r) (first-end r) (r .refill .result) (c .nearest .result) (first-spot c) (first-lanes r),
+      second-long x,
+      x .refill2 .ensures .long .0,
+      x .refill2 .ensures .long .1,
+      first-stands n,
+      c .reach2 .ensures ∙ ap (λ (m : ℕ). nearestOf m (markAt (x .refill2 .result))) (sized (ground n)),
     )
 
 enum-known-f : tie.Need-enum-known-f Inv-loop μ-loop
@@ -273,85 +374,91 @@ add-k c =
     let t = at-f (adv c) .before .before .loop-test .taken in
     omega arith
 
+past-requires : tie.Need-past-requires Inv-loop μ-loop
+past-requires c κs = search needs
+
 sub-room : tie.Need-sub-room Inv-loop μ-loop
 sub-room c = omega arith
 
-add-room : tie.Need-add-room Inv-loop μ-loop
-add-room c =
-    let s = start-of (base (adv (c .before))) in
+add-room-2 : tie.Need-add-room-2 Inv-loop μ-loop
+add-room-2 c =
+    let o = c .before .before in
+    let s = start-of (base (adv o)) in
     let g = s .good .1 .1 .0 in
-    let t = at-f (adv (c .before)) .before .before .loop-test .taken in
+    let t = at-f (adv o) .before .before .loop-test .taken in
     omega arith
 
-slice-aggregate-refill-2 : tie.Need-slice-aggregate-refill-2 Inv-loop μ-loop
-slice-aggregate-refill-2 c = sym (here (c .before .before) .loop .inv .3)
+slice-aggregate-refill-3 : tie.Need-slice-aggregate-refill-3 Inv-loop μ-loop
+slice-aggregate-refill-3 c = sym (here (c .before .before .before) .loop .inv .3)
 
-refill-requires-2 : tie.Need-refill-requires-2 Inv-loop μ-loop
-refill-requires-2 c κs =
-    let o = c .before .before .before .before in
+refill-requires-3 : tie.Need-refill-requires-3 Inv-loop μ-loop
+refill-requires-3 c κs =
+    let o = c .before .before .before .before .before in
     let v = adv o in
     let i = here o .loop .inv in
     let z = counted v in
-    let m = min-le-right (tray (base v) .count) 8 in
     let p = stepped v in
-    (omega arith, omega arith, sym (i .3), (λ x b. p .within x (omega arith)), (λ x b. opened (base v) .«open» .ensures x (omega arith) .1), p .long, i .5)
+    (few (tray (base v)) _ z, omega arith, sym (i .3), (λ x b. p .within x (omega arith)), (λ x b. made-own _ _ (opened (base v) .«open» .ensures x (omega arith))), p .long, i .5)
 
 -- lanes are filled again
-module _ (r : tie.After-refill2 Inv-loop μ-loop) where
+module _ (r : tie.After-refill3 Inv-loop μ-loop) where
   abbrev out-of : tie.After-out Inv-loop μ-loop
-  out-of = r .before .before .before .before .before
+  out-of = r .before .before .before .before .before .before
 
   abbrev again-queue : List ℤ
-  again-queue = r .refill2 .last .1 .1 .1 .1 .0
+  again-queue = r .refill3 .last .1 .1 .1 .1 .1 .0
 
   abbrev again-at : List ℕ
-  again-at = r .refill2 .last .1 .1 .1 .1 .1 .0
+  again-at = r .refill3 .last .1 .1 .1 .1 .1 .1 .0
 
   abbrev again-end : List ℕ
-  again-end = r .refill2 .last .1 .1 .1 .1 .1 .1 .0
+  again-end = r .refill3 .last .1 .1 .1 .1 .1 .1 .1 .0
 
   again-long : length again-queue ≡ 16384
   again-long =
       let same : length again-queue ≡ length (here out-of .loop .queue) = search needs in
       same ∙ here out-of .loop .inv .3
 
-  again-lanes : Lanes (tray (base (adv out-of))) (jobs (base (adv out-of))) (suc (rankOf (point (at-f (adv out-of))))) again-queue again-at again-end (r .refill2 .result)
-  again-lanes =
-      refilled (tray (base (adv out-of))) (jobs (base (adv out-of))) (suc (rankOf (point (at-f (adv out-of))))) (here out-of .loop .queue) (next-at (adv out-of)) (here out-of .loop .end) (here out-of .loop .after) again-queue again-at again-end (r .refill2 .result) (has-is (adv out-of))
-      (subst (λ (n : ℕ). Refilled (jobs (base (adv out-of))) n (here out-of .loop .queue) (next-at (adv out-of)) (here out-of .loop .end) (here out-of .loop .after) again-queue again-at again-end (r .refill2 .result)) (counted (adv out-of)) (r .refill2 .ensures))
+  again-fill : Refilled (jobs (base (adv out-of))) (size (tray (base (adv out-of)))) (here out-of .loop .queue) (next-at (adv out-of)) (here out-of .loop .end) (here out-of .loop .after) (spotOf (adv out-of .advance .result .spot)) again-queue again-at again-end (r .refill3 .result)
+  again-fill =
+      subst (λ (n : ℕ). Refilled (jobs (base (adv out-of))) n (here out-of .loop .queue) (next-at (adv out-of)) (here out-of .loop .end) (here out-of .loop .after) (spotOf (adv out-of .advance .result .spot)) again-queue again-at again-end (r .refill3 .result)) (counted (adv out-of)) (r .refill3 .ensures)
 
-slice-aggregate-nearest-2 : tie.Need-slice-aggregate-nearest-2 Inv-loop μ-loop
-slice-aggregate-nearest-2 c = sym (again-long (c .before .before))
+slice-aggregate-nearest-3 : tie.Need-slice-aggregate-nearest-3 Inv-loop μ-loop
+slice-aggregate-nearest-3 c = sym (again-long (c .before .before))
 
-nearest-requires-2 : tie.Need-nearest-requires-2 Inv-loop μ-loop
-nearest-requires-2 c κs =
+nearest-requires-3 : tie.Need-nearest-requires-3 Inv-loop μ-loop
+nearest-requires-3 c κs =
     let r = c .before .before .before .before in
     let v = adv (out-of r) in
-    let z = counted v in
-    let m = min-le-right (tray (base v) .count) 8 in
-    (omega arith, sym (again-long r), r .refill2 .ensures .within)
+    (few (tray (base v)) _ (counted v), sym (again-long r), r .refill3 .ensures .within)
+
+reach-requires-3 : tie.Need-reach-requires-3 Inv-loop μ-loop
+reach-requires-3 c κs = let v = adv (out-of (c .before .before .before .before .before)) in few (tray (base v)) _ (counted v)
 
 loop-less : tie.Need-loop-less Inv-loop μ-loop
-loop-less c = omega arith
+loop-less c = let v = adv (out-of (c .before .before .before .before .before .before)) in let test = at-f v .before .before .loop-test .taken in omega arith
 
 loop-again : tie.Need-loop-again Inv-loop μ-loop
 loop-again c =
-    let r = c .before .before .before .before .before in
+    let m = c .before in
+    let r = m .before .before .before .before .before in
     let o = out-of r in
     let v = adv o in
     let t = tray (base v) in
+    let a = here o in
     let n = suc (rankOf (point (at-f v))) in
     let test = at-f v .before .before .loop-test .taken in
-    let spot : spotOf (c .nearest2 .result) ≡ placeOf (left t n) =
-    c .nearest2 .ensures ∙ ap (λ (m : ℕ). nearestOf m (frontAt (again-queue r) (again-at r) (again-end r))) (counted v)
-    ∙ nearest-is t (jobs (base v)) n (again-queue r) (again-at r) (again-end r) (r .refill2 .result) (again-lanes r) in (
-      rw (written o) (dealt o (spotOf (c .nearest2 .result)) spot),
+    let spot : spotOf (m .nearest3 .result) ≡ placeOf (left t n) =
+    m .nearest3 .ensures ∙ ap (λ (x : ℕ). nearestOf x (frontAt (again-queue r) (again-at r) (again-end r))) (counted v)
+    ∙ again-spot t (jobs (base v)) n (a .loop .queue) (next-at v) (a .loop .end) (a .loop .after) (spotOf (v .advance .result .spot)) (has-is v) (stepped v .within) (stepped v .next) (again-queue r) (again-at r) (again-end r) (r .refill3 .result) (again-fill r) in (
+      rw (written o) (dealt o (spotOf (m .nearest3 .result)) spot),
       omega arith,
       ap length (written o) ∙ new-long o,
       again-long r,
-      r .refill2 .ensures .long .0,
-      r .refill2 .ensures .long .1,
-      stands-on t (jobs (base v)) n (again-queue r) (again-at r) (again-end r) (r .refill2 .result) (c .nearest2 .result) spot (again-lanes r),
+      r .refill3 .ensures .long .0,
+      r .refill3 .ensures .long .1,
+      again-stands t (jobs (base v)) n (a .loop .queue) (next-at v) (a .loop .end) (a .loop .after) (spotOf (v .advance .result .spot)) (has-is v) (stepped v .within) (stepped v .next) (again-queue r) (again-at r) (again-end r) (r .refill3 .result) (again-fill r) (m .nearest3 .result) spot,
+      c .reach3 .ensures ∙ ap (λ (x : ℕ). nearestOf x (markAt (r .refill3 .result))) (counted v),
     )
 
 loop-less-2 : tie.Need-loop-less-2 Inv-loop μ-loop
@@ -359,21 +466,25 @@ loop-less-2 c = omega arith
 
 loop-again-2 : tie.Need-loop-again-2 Inv-loop μ-loop
 loop-again-2 c =
-    let o = c .before in
+    let p = c .before in
+    let o = p .before in
     let v = adv o in
     let t = tray (base v) in
     let a = here o in
     let n = suc (rankOf (point (at-f v))) in
     let test = at-f v .before .before .loop-test .taken in
-    let lanes = step-lanes t (jobs (base v)) (rankOf (point (at-f v))) (in-range (at-f v)) (a .loop .queue) (a .loop .at) (next-at v) (a .loop .end) (a .loop .after) _ _ _ (lanes-here (at-f v)) (stepped v) (c .if1 .left) in
-    let spot : spotOf (v .advance .result .spot) ≡ placeOf (left t n) = stepped v .next ∙ nearest-is t (jobs (base v)) n (a .loop .queue) (next-at v) (a .loop .end) (a .loop .after) lanes in (
-      rw (written o) (dealt o (spotOf (v .advance .result .spot)) spot),
+    let w = spotOf (v .advance .result .spot) in
+    let told : Told′ (size t) (next-at v) (a .loop .end) (a .loop .after) (placeOf (left t n)) =
+    told-all (size t) (next-at v) (a .loop .end) (a .loop .after) (spotOf (a .loop .far)) w (placeOf (left t n)) (reached t (jobs (base v)) n (a .loop .queue) (next-at v) (a .loop .end) (a .loop .after) w (has-is v) (stepped v .within) (stepped v .next)) (a .loop .inv .7) (sym (p .past .ensures) ∙ not-false _ (c .if1 .left)) in
+    let spot : w ≡ placeOf (left t n) = stepped v .next ∙ nearest-is t (jobs (base v)) n (a .loop .queue) (next-at v) (a .loop .end) (a .loop .after) (has-is v) (stepped v .within) told in (
+      rw (written o) (dealt o w spot),
       omega arith,
       ap length (written o) ∙ new-long o,
       a .loop .inv .3,
       stepped v .long,
       a .loop .inv .5,
-      stands-on t (jobs (base v)) n (a .loop .queue) (next-at v) (a .loop .end) (a .loop .after) (v .advance .result .spot) spot lanes,
+      stands-on t (jobs (base v)) n (a .loop .queue) (next-at v) (a .loop .end) (a .loop .after) (v .advance .result .spot) spot (has-is v) (stepped v .within) told,
+      a .loop .inv .7,
     )
 
 enum-told : tie.Need-enum-told Inv-loop μ-loop
@@ -385,10 +496,10 @@ same-length c = c .before .loop .inv .2
 returns : tie.Need-returns Inv-loop μ-loop
 returns c =
     let l = c .before in
-    let r = fill-of (l .before) in
+    let r = ground (l .before .before) in
     let i = l .loop .inv in
     let e : l .loop .k ≡ length (start-of r .args .out .now) / 5 = omega arith in
-    rw (← same-left (l .before), ← e) (dealt-full (fiveOf (tray r)) 5 (λ x. refl) _ _ _ _ _ (i .0))
+    rw (← same-left (l .before .before), ← e) (dealt-full (fiveOf (tray r)) 5 (λ x. refl) _ _ _ _ _ (i .0))
 
 same-length-2 : tie.Need-same-length-2 Inv-loop μ-loop
 same-length-2 c = c .before .before .before .loop .inv .2
@@ -396,9 +507,9 @@ same-length-2 c = c .before .before .before .loop .inv .2
 returns-2 : tie.Need-returns-2 Inv-loop μ-loop
 returns-2 c =
     let l = c .before .before .before in
-    let r = fill-of (l .before) in
+    let r = ground (l .before .before) in
     let i = l .loop .inv in
-    rw (← same-left (l .before)) (dealt-end (fiveOf (tray r)) 5 (λ x. refl) _ _ _ _ _ _ (ap spotOf (c .enum-told .given .1)) (i .0) (i .1))
+    rw (← same-left (l .before .before)) (dealt-end (fiveOf (tray r)) 5 (λ x. refl) _ _ _ _ _ _ (ap spotOf (c .enum-told .given .1)) (i .0) (i .1))
 
 pub deal-spec : {M : Type 1} → statement M
 deal-spec =
@@ -407,13 +518,20 @@ deal-spec =
     Inv-loop
     μ-loop
     regions-requires
+    floors-requires
+    reach-requires
     open-requires
     queue-requires
-    add-refill
+    add-room
     slice-aggregate-refill
     refill-requires
     slice-aggregate-nearest
     nearest-requires
+    slice-aggregate-refill-2
+    refill-requires-2
+    slice-aggregate-nearest-2
+    nearest-requires-2
+    reach-requires-2
     loop-holds
     enum-known-f
     regions-requires-2
@@ -422,12 +540,14 @@ deal-spec =
     mul-put-five
     put-five-requires
     add-k
+    past-requires
     sub-room
-    add-room
-    slice-aggregate-refill-2
-    refill-requires-2
-    slice-aggregate-nearest-2
-    nearest-requires-2
+    add-room-2
+    slice-aggregate-refill-3
+    refill-requires-3
+    slice-aggregate-nearest-3
+    nearest-requires-3
+    reach-requires-3
     loop-less
     loop-again
     loop-less-2

@@ -1,6 +1,4 @@
 use mathlib.Core.Path.{_≡_, refl, sym, ap, subst, _∙_}
-use mathlib.Core.Bool.{Bool, true, false, false≢true}
-use mathlib.Core.Logic.{⊎-elim}
 use Prim.Native.Nat.{ℕ, suc, _+_, _-_, _*_, _^_, _<_, _≤_}
 use native.Mathlib.Nat.{pow-suc, pow-le-pow-right}
 use native.Mathlib.Numerals.{add-one}
@@ -15,10 +13,10 @@ use Rattle.merge.proofs.lanes.advance.Statement.{statement}
 use Rattle.merge.proofs.lanes.advance.Tie as tie
 
 abbrev Inv-loop : tie.InvT-loop
-Inv-loop queue at₀ end size v mask₀ bit₀ spot₀ spent₀ j₀ at mask bit spot spent j = (j ≤ size) × (bit ≡ 2 ^ j) × Passed queue at₀ end (rankOf v) j at mask (spotOf spot) spent
+Inv-loop queue at₀ end size v mask₀ bit₀ spot₀ j₀ at mask bit spot j = (j ≤ size) × (bit ≡ 2 ^ j) × Passed queue at₀ end (rankOf v) j at mask (spotOf spot)
 
 abbrev μ-loop : tie.MeasureT-loop
-μ-loop queue at₀ end size v mask₀ bit₀ spot₀ spent₀ j₀ at mask bit spot spent j = size - j
+μ-loop queue at₀ end size v mask₀ bit₀ spot₀ j₀ at mask bit spot j = size - j
 
 -- behind lane number j
 module _ (c : tie.After-pass Inv-loop μ-loop) where
@@ -34,17 +32,17 @@ module _ (c : tie.After-pass Inv-loop μ-loop) where
   few : loop-of .loop .j < 8
   few = let p = start .pre in let h = in-loop .loop-test .taken in omega arith
 
-  behind : (b : Bool) → (b ≡ false → (loop-of .loop .spent ≡ false) × (c .pass .result .spent ≡ false))
-      → Passed (start .args .queue .now) (start .args .at .now) (start .args .end .now) (rankOf (start .args .v)) (loop-of .loop .j + 1) (set (loop-of .loop .at) (loop-of .loop .j) (c .pass .result .at))
-      (loop-of .loop .mask + c .pass .result .held * loop-of .loop .bit) (nearer (spotOf (loop-of .loop .spot)) (spotOf (c .pass .result .front))) b
-  behind b n =
+  behind :
+      Passed (start .args .queue .now) (start .args .at .now) (start .args .end .now) (rankOf (start .args .v)) (loop-of .loop .j + 1) (set (loop-of .loop .at) (loop-of .loop .j) (c .pass .result .at))
+      (loop-of .loop .mask + c .pass .result .held * loop-of .loop .bit) (nearer (spotOf (loop-of .loop .spot)) (spotOf (c .pass .result .front)))
+  behind =
       let e = c .pass .ensures in
-      passed-more (start .args .queue .now) (start .args .at .now) (start .args .end .now) (rankOf (start .args .v)) (loop-of .loop .j) (loop-of .loop .at) (loop-of .loop .mask) (spotOf (loop-of .loop .spot)) (loop-of .loop .spent) (loop-of .loop .inv .2) few (c .pass .result .at) (c .pass .result .held) (loop-of .loop .bit) (spotOf (c .pass .result .front)) (c .pass .result .spent) b
-      (e .0) (e .1) (e .2) (e .3) (e .4) n (loop-of .loop .inv .1)
+      passed-more (start .args .queue .now) (start .args .at .now) (start .args .end .now) (rankOf (start .args .v)) (loop-of .loop .j) (loop-of .loop .at) (loop-of .loop .mask) (spotOf (loop-of .loop .spot)) (loop-of .loop .inv .2) few (c .pass .result .at) (c .pass .result .held) (loop-of .loop .bit) (spotOf (c .pass .result .front))
+      (e .0) (e .1) (e .2) (e .3) (loop-of .loop .inv .1)
 
   small : (loop-of .loop .mask + c .pass .result .held * loop-of .loop .bit < 256) × (loop-of .loop .bit ≤ 128)
   small =
-      let m = behind true (λ e. absurd (false≢true (sym e))) .mask in
+      let m = behind .mask in
       let f = few in
       let b = bits-below (loop-of .loop .j + 1) (λ i. isAt (frontAt (start .args .queue .now) (start .args .at .now) (start .args .end .now) i) (rankOf (start .args .v))) in
       let two : 0 < 2 = omega arith in
@@ -105,14 +103,13 @@ loop-less c = search needs
 
 loop-again : tie.Need-loop-again Inv-loop μ-loop
 loop-again c =
-    let n = c .before in
+    let n = c in
     let p = n .before .before in
     let a = loop-of p in
     let s = start p in
     let j = a .loop .j in
-    let none : c .if1 .spent ≡ false → (a .loop .spent ≡ false) × (p .pass .result .spent ≡ false) = λ e. ⊎-elim (λ w. absurd (false≢true (sym e ∙ w .1))) (λ w. (sym (w .1) ∙ e, w .0 .left)) (c .if1 .came) in
     let twice : a .loop .bit * 2 ≡ 2 ^ (j + 1) = ap (λ (x : ℕ). x * 2) (a .loop .inv .1) ∙ sym (pow-suc 2 j) ∙ ap (λ (x : ℕ). 2 ^ x) (sym (add-one j)) in
-    (omega arith, twice, rw (n .nearer .ensures) (behind p (c .if1 .spent) none))
+    (omega arith, twice, rw (n .nearer .ensures) (behind p))
 
 returns : tie.Need-returns Inv-loop μ-loop
 returns c =
@@ -120,7 +117,7 @@ returns c =
     let s = a .before in
     let e : a .loop .j ≡ s .args .size = omega arith in
     let h = a .loop .inv .2 in
-    passed-all _ _ _ _ _ _ _ _ _ (s .pre .2) (subst (λ (n : ℕ). Passed (s .args .queue .now) (s .args .at .now) (s .args .end .now) (rankOf (s .args .v)) n (a .loop .at) (a .loop .mask) (spotOf (a .loop .spot)) (a .loop .spent)) e h)
+    passed-all _ _ _ _ _ _ _ _ (s .pre .2) (subst (λ (n : ℕ). Passed (s .args .queue .now) (s .args .at .now) (s .args .end .now) (rankOf (s .args .v)) n (a .loop .at) (a .loop .mask) (spotOf (a .loop .spot))) e h)
 
 pub advance-spec : {M : Type 1} → statement M
 advance-spec =

@@ -12,17 +12,16 @@ use Rattle.lists.specs.Walk.{numbersOf, spotOf}
 use Rattle.ranks.specs.Handed.{Gave}
 use Rattle.ranks.specs.Rest.{Place}
 use Rattle.region.specs.declared.Job.{Job}
-use Rattle.walk.specs.Prepared.{jobOf}
 use Rattle.merge.proofs.lanes.fill.Statement.{statement}
 use Rattle.merge.proofs.lanes.fill.Tie as tie
 
 -- what the walk wrote to the lane's part of the queue
-module _ (h : tie.After-hand-out-of) where
+module _ (h : tie.After-walk-on) where
   abbrev start : tie.Start
   start = h .before .before
 
   abbrev job : Job
-  job = jobOf (start .args .s .walk)
+  job = start .args .s .job
 
   abbrev from : Place
   from = spotOf (start .args .from)
@@ -43,7 +42,7 @@ module _ (h : tie.After-hand-out-of) where
   old = take (end - place) (drop place queue)
 
   abbrev new : List ℤ
-  new = h .hand-out-of .last .1 .1 .0
+  new = h .walk-on .last .1 .1 .0
 
   abbrev front : List ℤ
   front = take place queue
@@ -60,16 +59,16 @@ module _ (h : tie.After-hand-out-of) where
   old-long : length old ≡ 4 * count-of
   old-long = let l = long in length-take-le (end - place) (drop place queue) (omega (arith, length-drop place queue)) ∙ omega arith
 
-  gave : Gave numbersOf 4 (leftOf job from) old count-of (h .hand-out-of .result .count) new (spotOf (h .hand-out-of .result .spot))
+  gave : Gave numbersOf 4 (leftOf job from) old count-of (h .walk-on .result .count) new (spotOf (h .walk-on .result .spot))
   gave =
       let sized : length old / 4 ≡ count-of = let l = old-long in omega arith in
-      subst (λ (m : ℕ). Gave numbersOf 4 (leftOf job from) old m (h .hand-out-of .result .count) new (spotOf (h .hand-out-of .result .spot))) sized (h .hand-out-of .ensures)
+      subst (λ (m : ℕ). Gave numbersOf 4 (leftOf job from) old m (h .walk-on .result .count) new (spotOf (h .walk-on .result .spot))) sized (h .walk-on .ensures)
 
   elsewhere : Elsewhere (start .args .j) queue (front ++ (new ++ behind))
   elsewhere =
       let p = start .pre in
       let same : length new ≡ length old = search needs in
-      filled-elsewhere job from count-of place old new front behind (h .hand-out-of .result .count) (spotOf (h .hand-out-of .result .spot)) gave front-long (start .args .j) queue refl (p .2) (same ∙ old-long) refl
+      filled-elsewhere job from count-of place old new front behind (h .walk-on .result .count) (spotOf (h .walk-on .result .spot)) gave front-long (start .args .j) queue refl (p .2) (same ∙ old-long) refl
       (post-is place end queue (omega arith)) long
 
 mul-start : tie.Need-mul-start
@@ -81,20 +80,20 @@ mul-end c = search needs
 add-end : tie.Need-add-end
 add-end c = search needs
 
-mul-hand-out-of : tie.Need-mul-hand-out-of
-mul-hand-out-of c = search needs
+mul-walk-on : tie.Need-mul-walk-on
+mul-walk-on c = search needs
 
-sub-hand-out-of : tie.Need-sub-hand-out-of
-sub-hand-out-of c = search needs
+sub-walk-on : tie.Need-sub-walk-on
+sub-walk-on c = search needs
 
-part-hand-out-of-start : tie.Need-part-hand-out-of-start
-part-hand-out-of-start c = search needs
+part-walk-on-start : tie.Need-part-walk-on-start
+part-walk-on-start c = search needs
 
-part-hand-out-of-end : tie.Need-part-hand-out-of-end
-part-hand-out-of-end c = search needs
+part-walk-on-end : tie.Need-part-walk-on-end
+part-walk-on-end c = search needs
 
-hand-out-of-requires : tie.Need-hand-out-of-requires
-hand-out-of-requires c κs = c .before .pre .0
+walk-on-requires : tie.Need-walk-on-requires
+walk-on-requires c κs = c .before .pre .0
 
 same-length : tie.Need-same-length
 same-length c = search needs
@@ -104,9 +103,9 @@ returns c =
     let h = c .before in
     let s = start h in
     let p = s .pre in (
-      filled-content (job h) (from h) (count-of h) (place h) (old h) (new h) (front h) (behind h) (h .hand-out-of .result .count) (spotOf (h .hand-out-of .result .spot)) (gave h) (front-long h) (s .args .j) refl,
-      filled-few (job h) (from h) (count-of h) (place h) (old h) (new h) (front h) (behind h) (h .hand-out-of .result .count) (spotOf (h .hand-out-of .result .spot)) (gave h) (front-long h) (p .2),
-      filled-none (job h) (from h) (count-of h) (place h) (old h) (new h) (front h) (behind h) (h .hand-out-of .result .count) (spotOf (h .hand-out-of .result .spot)) (gave h) (front-long h) (p .1),
+      filled-content (job h) (from h) (count-of h) (place h) (old h) (new h) (front h) (behind h) (h .walk-on .result .count) (spotOf (h .walk-on .result .spot)) (gave h) (front-long h) (s .args .j) refl,
+      filled-few (job h) (from h) (count-of h) (place h) (old h) (new h) (front h) (behind h) (h .walk-on .result .count) (spotOf (h .walk-on .result .spot)) (gave h) (front-long h) (p .2),
+      filled-none (job h) (from h) (count-of h) (place h) (old h) (new h) (front h) (behind h) (h .walk-on .result .count) (spotOf (h .walk-on .result .spot)) (gave h) (front-long h) (p .1),
       elsewhere h,
     )
 
@@ -117,10 +116,10 @@ fill-spec =
     mul-start
     mul-end
     add-end
-    mul-hand-out-of
-    sub-hand-out-of
-    part-hand-out-of-start
-    part-hand-out-of-end
-    hand-out-of-requires
+    mul-walk-on
+    sub-walk-on
+    part-walk-on-start
+    part-walk-on-end
+    walk-on-requires
     same-length
     returns)

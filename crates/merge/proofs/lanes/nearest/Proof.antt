@@ -5,7 +5,8 @@ use native.Mathlib.Omega.{arith}
 use borrow.Author.Needs.{needs}
 use Rattle.lists.specs.Walk.{spotOf}
 use Rattle.trays.specs.Nearer.{nearer}
-use Rattle.merge.specs.Lanes.{frontAt, nearestOf, nearest-none, nearest-more}
+use Rattle.merge.specs.Past.{nearestOf, nearest-none, nearest-more}
+use Rattle.merge.specs.Lanes.{frontAt}
 use Rattle.merge.proofs.lanes.nearest.Statement.{statement}
 use Rattle.merge.proofs.lanes.nearest.Tie as tie
 

@@ -4,7 +4,7 @@ use Prim.Native.Nat.{ℕ, _+_, _≤_, _<_}
 use native.Mathlib.Nat.{add-zero}
 use native.Mathlib.Decide.{decLt}
 use native.Mathlib.Omega.{arith}
-use borrow.Author.Tests.{not-true, not-false, eqb-false}
+use borrow.Author.Tests.{not-true, not-false}
 use borrow.Author.Needs.{needs}
 use lib.IntN.{ℤ}
 use mathlib.Core.List.{List}
@@ -38,7 +38,7 @@ returns c =
     let a = c .before in
     let s = a .before .before in
     let e = sym (tested a) ∙ not-true _ (c .if1 .taken) in
-    (sym (ap (λ (b : Bool). cond b 1 0) e), sym (add-zero (s .args .i)), s .pre .1, a .before .front .ensures, λ x u. u)
+    (sym (ap (λ (b : Bool). cond b 1 0) e), sym (add-zero (s .args .i)), s .pre .1, a .before .front .ensures)
 
 add-n : tie.Need-add-n
 add-n c = search needs
@@ -53,7 +53,7 @@ returns-2 c =
     let s = a .before .before in
     let e = sym (tested a) ∙ not-false _ (d .if1 .left) in
     let l = queued (s .args .queue .now) (s .args .j) (s .args .i) (s .args .e) (rankOf (s .args .v)) e in
-    (sym (ap (λ (b : Bool). cond b 1 0) e), refl, omega arith, c .front2 .ensures, λ x u. absurd (eqb-false _ _ x u))
+    (sym (ap (λ (b : Bool). cond b 1 0) e), refl, omega arith, c .front2 .ensures)
 
 pub pass-spec : {M : Type 1} → statement M
 pass-spec = tie.close (tie.spec front-requires is-at-requires returns add-n front-requires-2 returns-2)

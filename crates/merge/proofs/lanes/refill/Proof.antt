@@ -3,25 +3,24 @@ use mathlib.Core.Logic.{⊎-elim}
 use Prim.Native.Nat.{ℕ, _+_, _-_, _<_, _≤_}
 use native.Mathlib.Omega.{arith}
 use borrow.Author.Needs.{needs}
-use borrow.Author.Tests.{eqb-true, eqb-false}
 use lib.ListN.{length}
 use Rattle.region.specs.declared.Job.{Job}
-use Rattle.walk.specs.Prepared.{jobOf}
+use Rattle.lists.specs.Walk.{spotOf}
 use Rattle.merge.specs.Lanes.{sourceAt, Filling, filling-none, filling-kept, filling-more, filling-all}
 use Rattle.merge.proofs.lanes.refill.Statement.{statement}
 use Rattle.merge.proofs.lanes.refill.Tie as tie
 
 abbrev Inv-loop : tie.InvT-loop
-Inv-loop size room queue₀ at₀ end₀ sources after₀ j₀ queue at end after j = (j ≤ size) × Filling (λ i. jobOf (sourceAt sources i)) size queue₀ at₀ end₀ after₀ j queue at end after
+Inv-loop size room front queue₀ at₀ end₀ sources after₀ j₀ queue at end after j = (j ≤ size) × Filling (λ i. sourceAt sources i .job) size queue₀ at₀ end₀ after₀ (spotOf front) j queue at end after
 
 abbrev μ-loop : tie.MeasureT-loop
-μ-loop size room queue₀ at₀ end₀ sources after₀ j₀ queue at end after j = size - j
+μ-loop size room front queue₀ at₀ end₀ sources after₀ j₀ queue at end after j = size - j
 
 loop-holds : tie.Need-loop-holds Inv-loop μ-loop
 loop-holds c =
     let p = c .pre in
     let m : length (c .args .marks) ≡ 8 = search needs in
-    (omega arith, filling-none _ (c .args .size) (c .args .queue .now) (c .args .at .now) (c .args .end .now) _ (sym (p .2)) (p .5, p .6, m) (p .3))
+    (omega arith, filling-none _ (c .args .size) (c .args .queue .now) (c .args .at .now) (c .args .end .now) _ (spotOf (c .args .front)) (sym (p .2)) (p .5, p .6, m) (p .3))
 
 mul-e : tie.Need-mul-e Inv-loop μ-loop
 mul-e c = search needs
@@ -29,11 +28,20 @@ mul-e c = search needs
 element-copy-out-e : tie.Need-element-copy-out-e Inv-loop μ-loop
 element-copy-out-e c = search needs
 
-mul-if1 : tie.Need-mul-if1 Inv-loop μ-loop
-mul-if1 c = search needs
+mul-m : tie.Need-mul-m Inv-loop μ-loop
+mul-m c = search needs
 
-element-copy-out-if1 : tie.Need-element-copy-out-if1 Inv-loop μ-loop
-element-copy-out-if1 c = search needs
+array-copy-out-m : tie.Need-array-copy-out-m Inv-loop μ-loop
+array-copy-out-m c = search needs
+
+mul-is-due : tie.Need-mul-is-due Inv-loop μ-loop
+mul-is-due c = search needs
+
+element-copy-out-is-due : tie.Need-element-copy-out-is-due Inv-loop μ-loop
+element-copy-out-is-due c = search needs
+
+is-due-requires : tie.Need-is-due-requires Inv-loop μ-loop
+is-due-requires c κs = search needs
 
 mul-s : tie.Need-mul-s Inv-loop μ-loop
 mul-s c = search needs
@@ -41,22 +49,16 @@ mul-s c = search needs
 array-copy-out-s : tie.Need-array-copy-out-s Inv-loop μ-loop
 array-copy-out-s c = search needs
 
-mul-m : tie.Need-mul-m Inv-loop μ-loop
-mul-m c = search needs
-
-array-copy-out-m : tie.Need-array-copy-out-m Inv-loop μ-loop
-array-copy-out-m c = search needs
-
 grown-requires : tie.Need-grown-requires Inv-loop μ-loop
 grown-requires c κs = search needs
 
 least-requires : tie.Need-least-requires Inv-loop μ-loop
-least-requires c κs = (c .grown .ensures .0, c .before .before .before .before .before .before .before .before .pre .1)
+least-requires c κs = (c .grown .ensures .0, c .before .before .before .before .before .before .before .before .before .pre .1)
 
 fill-requires : tie.Need-fill-requires Inv-loop μ-loop
 fill-requires c κs =
     let g = c .before .before in
-    let l = g .before .before .before .before .before .before in
+    let l = g .before .before .before .before .before .before .before in
     let a = l .before in
     let s = a .before in
     let p = s .pre in
@@ -91,26 +93,27 @@ loop-less c = search needs
 
 loop-again : tie.Need-loop-again Inv-loop μ-loop
 loop-again c =
-    let l = c .before .before .before in
+    let d = c .before in
+    let l = d .before .before .before .before in
     let a = l .before in
     let s = a .before in
     let p = s .pre in
     let h = l .loop-test .taken in
-    let J : ℕ → Job = λ i. jobOf (sourceAt (s .args .t1) i) in
+    let J : ℕ → Job = λ i. sourceAt (s .args .t1) i .job in
     ⊎-elim
     (λ w.
-    let q = w .6 .last .1 .1 .1 .1 .0 in
+    let q = w .5 .last .1 .1 .1 .1 .0 in
     let same : length q ≡ length (a .loop .queue) = search needs in
-    let e = w .6 .ensures in (
+    let e = w .5 .ensures in (
       omega arith,
-      rw (w .8, w .9, w .10, w .11)
-          (filling-more J (s .args .size) (s .args .queue .now) (s .args .at .now) (s .args .end .now) (s .args .marks) (a .loop .j) (a .loop .queue) (a .loop .at) (a .loop .end) (a .loop .after) (a .loop .inv .1) h (omega arith) (w .0 .taken) q (w .6 .result .count) (w .6 .result .spot)
+      rw (w .7, w .8, w .9, w .10)
+          (filling-more J (s .args .size) (s .args .queue .now) (s .args .at .now) (s .args .end .now) (s .args .marks) (spotOf (s .args .front)) (a .loop .j) (a .loop .queue) (a .loop .at) (a .loop .end) (a .loop .after) (a .loop .inv .1) h (omega arith) (d .is-due .ensures .0 (w .0 .taken)) q (w .5 .result .count) (w .5 .result .spot)
           (e .3) (same ∙ a .loop .inv .1 .room) (e .0) (e .1) (e .2)),
     ))
     (λ w. (
       omega arith,
       rw (w .1, w .2, w .3, w .4)
-          (filling-kept J (s .args .size) (s .args .queue .now) (s .args .at .now) (s .args .end .now) (s .args .marks) (a .loop .j) (a .loop .queue) (a .loop .at) (a .loop .end) (a .loop .after) (a .loop .inv .1) (w .0 .left)),
+          (filling-kept J (s .args .size) (s .args .queue .now) (s .args .at .now) (s .args .end .now) (s .args .marks) (spotOf (s .args .front)) (a .loop .j) (a .loop .queue) (a .loop .at) (a .loop .end) (a .loop .after) (a .loop .inv .1) (d .is-due .ensures .1 (w .0 .left))),
     ))
     (c .if1 .came)
 
@@ -122,7 +125,7 @@ returns c =
     let a = c .before in
     let s = a .before in
     let e : a .loop .j ≡ s .args .size = omega arith in
-    filling-all _ _ _ _ _ _ _ _ _ _ (subst (λ (n : ℕ). Filling (λ i. jobOf (sourceAt (s .args .t1) i)) (s .args .size) (s .args .queue .now) (s .args .at .now) (s .args .end .now) (s .args .marks) n (a .loop .queue) (a .loop .at) (a .loop .end) (a .loop .after)) e (a .loop .inv .1))
+    filling-all _ _ _ _ _ _ _ _ _ _ _ (subst (λ (n : ℕ). Filling (λ i. sourceAt (s .args .t1) i .job) (s .args .size) (s .args .queue .now) (s .args .at .now) (s .args .end .now) (s .args .marks) (spotOf (s .args .front)) n (a .loop .queue) (a .loop .at) (a .loop .end) (a .loop .after)) e (a .loop .inv .1))
 
 pub refill-spec : {M : Type 1} → statement M
 refill-spec =
@@ -133,12 +136,13 @@ refill-spec =
     loop-holds
     mul-e
     element-copy-out-e
-    mul-if1
-    element-copy-out-if1
-    mul-s
-    array-copy-out-s
     mul-m
     array-copy-out-m
+    mul-is-due
+    element-copy-out-is-due
+    is-due-requires
+    mul-s
+    array-copy-out-s
     grown-requires
     least-requires
     fill-requires
