@@ -9,13 +9,13 @@ use Rattle.stages.specs.declared.Answer.{Answer}
 use Rattle.stages.specs.World.{world}
 use Rattle.stages.specs.Session.{meaning, answerOf, outcome, scaleOf, Steps}
 use Rattle.tally.specs.declared.Tally.{Tally}
-use Rattle.tallied.specs.declared.Tallied.{Tallied}
-use Rattle.tallied.specs.declared.Outcome.{Outcome}
-use Rattle.tallied.specs.Tallied.{tallyAfter, Moves, Deals}
+use Rattle.tallying.specs.declared.Tallied.{Tallied}
+use Rattle.tallying.specs.declared.Outcome.{Outcome}
+use Rattle.tallying.specs.Tallied.{tallyAfter, Moves, Deals}
 use Rattle.numbers.specs.declared.State.{State}
 use Rattle.numbers.specs.declared.Reply.{Reply}
-use Rattle.numbers.specs.Numbers.{sessionOf, tallyOf, benchOf, replyOf, reply-any}
-use Rattle.bowujita.specs.declared.Left.{Left}
+use Rattle.numbers.specs.Numbers.{sessionOf, tallyOf, benchOf, replyOf, reply-any, LeftOf}
+use Rattle.numbers.specs.declared.Left.{Left}
 
 -- what numbers mean in the model
 abbrev pub meant : State → Model.Session world
@@ -44,10 +44,6 @@ abbrev pub Asks : Call world → State → Reply → Type 0
 Asks c s r = r ≡ replyOf (made c s .0)
 
 -- ---- by way of the bench's session
-pub record LeftOf (o : Outcome) (r : Left) : Type 0 where
-  pub session : benchOf (r .session) ≡ o .session
-  pub reply : r .reply ≡ replyOf (answerOf [] (o .answer))
-
 module _ {c : Call world} (l : List ℤ) {b : Tallied} {o : Outcome} {r : Left} {s : State} (h : LeftOf o r) (e : b ≡ benchOf s) where
   -- a step and the counts after it, as `Moves` and `Deals` have them
   left-by : outcome l (o .session .session) (o .answer) ≡ step world c (meaning (b .session)) → o .session .tally ≡ tallyAfter c (answerOf l (o .answer)) (scaleOf (meaning (b .session))) (b .tally) → Leaves c s r

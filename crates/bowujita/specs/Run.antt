@@ -12,7 +12,7 @@ use Rattle.numbers.specs.declared.Four.{Four}
 use Rattle.numbers.specs.declared.State.{State}
 use Rattle.numbers.specs.declared.Reply.{Reply}
 use Rattle.numbers.specs.Numbers.{pointOf, replyOf, stage-0}
-use Rattle.bowujita.specs.declared.Left.{Left}
+use Rattle.numbers.specs.declared.Left.{Left}
 use Rattle.bowujita.specs.Calls.{meant, made, Leaves, Fills, Asks}
 
 -- a call that was made: its arguments, its answer in numbers, and the lent slice as it left it (none: [])

@@ -2,7 +2,7 @@
 ghost use mathlib.Core.Path.{_≡_};
 ghost use Rattle.calls.specs.Session.{reading, rewind, clear, plain, imageOf, shortest};
 ghost use Rattle.numbers.specs.Numbers.{pointOf};
-ghost use Rattle.bowujita.specs.Calls.{LeftOf, Leaves, Fills, Asks};
+ghost use Rattle.bowujita.specs.Calls.{Leaves, Fills, Asks};
 
 mod alone;
 mod companions;
@@ -11,16 +11,9 @@ mod trays;
 
 use numbers::Counts;
 use numbers::Four;
+use numbers::Left;
 use numbers::Reply;
 use numbers::State;
-use tallied::Outcome;
-
-// The session that a call leaves, and its answer.
-#[repr(C)]
-pub struct Left {
-    pub session: State,
-    pub reply: Reply,
-}
 
 // The number of this table of calls and structs: BOWUJITA_ABI of the header.
 #[no_mangle]
@@ -30,25 +23,12 @@ pub extern "C" fn bowujita_abi() -> u32
     2
 }
 
-fn leaving(o: Outcome) -> Left
-    ensures { λ r. ⌜ LeftOf o r ⌝ }
-{
-    let s = o.session;
-    let a = o.answer;
-    let session = numbers::state_of(s);
-    let reply = numbers::reply_of(a);
-    Left {
-        session: session,
-        reply: reply,
-    }
-}
-
 // One reading: a record from the front of the bytes joins the session, or is refused.
 #[no_mangle]
 pub extern "C" fn bowujita_read(s: State, bytes: &[u8]) -> Left
     ensures { λ r. ⌜ Leaves (reading (now (bytes .entry))) s r ⌝ }
 {
-    leaving(tallied::read(numbers::session_of(s), bytes))
+    numbers::leaving(tallied::read(numbers::session_of(s), bytes))
 }
 
 // A hand-out: as many of the next listed points as the slice has space for.
@@ -56,7 +36,7 @@ pub extern "C" fn bowujita_read(s: State, bytes: &[u8]) -> Left
 pub extern "C" fn bowujita_hand_out(s: State, out: &mut [i32]) -> Left
     ensures { λ r. ⌜ Fills s (now (out .entry)) (now (out .exit)) r ⌝ }
 {
-    leaving(tallied::hand_out(numbers::session_of(s), out))
+    numbers::leaving(tallied::hand_out(numbers::session_of(s), out))
 }
 
 // Back before the first point.
@@ -64,7 +44,7 @@ pub extern "C" fn bowujita_hand_out(s: State, out: &mut [i32]) -> Left
 pub extern "C" fn bowujita_rewind(s: State) -> Left
     ensures { λ r. ⌜ Leaves rewind s r ⌝ }
 {
-    leaving(tallied::rewind(numbers::session_of(s)))
+    numbers::leaving(tallied::rewind(numbers::session_of(s)))
 }
 
 // A fresh session.
@@ -72,7 +52,7 @@ pub extern "C" fn bowujita_rewind(s: State) -> Left
 pub extern "C" fn bowujita_clear(s: State) -> Left
     ensures { λ r. ⌜ Leaves clear s r ⌝ }
 {
-    leaving(tallied::clear(numbers::session_of(s)))
+    numbers::leaving(tallied::clear(numbers::session_of(s)))
 }
 
 // Whether the job lists a point.

@@ -9,8 +9,8 @@ use denote.Laws.{Is}
 use denote.Ref.{RefT}
 use denote.Steps.{only}
 use denote.Struct.Laws as LL
-use Rattle.tallied.proofs.Outcome as O
-use Rattle.tallied.proofs.Outcome.Laws as O′
+use Rattle.tallying.proofs.Outcome as O
+use Rattle.tallying.proofs.Outcome.Laws as O′
 use Rattle.lent.proofs.Data.{Value}
 use Rattle.lent.proofs.Types.{session, answer, outcome}
 

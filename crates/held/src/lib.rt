@@ -3,7 +3,7 @@ ghost use mathlib.Core.List.{[]};
 ghost use Rattle.calls.specs.Session.{reading, rewind as rewinding, clear as clearing, plain, imageOf, shortest as shortestOf};
 ghost use mathlib.Core.Path.{_≡_};
 ghost use Rattle.stages.specs.Session.{Steps};
-ghost use Rattle.tallied.specs.Tallied.{Moves, Deals};
+ghost use Rattle.tallying.specs.Tallied.{Moves, Deals};
 use ring::Point;
 use session::Answer;
 use tallied::Outcome;

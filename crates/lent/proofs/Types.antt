@@ -4,14 +4,14 @@ use denote.Steps.{only}
 use denote.Struct.Laws as LL
 use Rattle.ring.proofs.Point as P
 use Rattle.ring.proofs.Point.Laws as P′
-use Rattle.tallied.proofs.Tallied as S
-use Rattle.tallied.proofs.Tallied.Laws as S′
+use Rattle.tallying.proofs.Tallied as S
+use Rattle.tallying.proofs.Tallied.Laws as S′
 use Rattle.tally.proofs.Tally as T
 use Rattle.tally.proofs.Tally.Laws as T′
 use Rattle.stages.proofs.Answer as A
 use Rattle.stages.proofs.Answer.Laws as A′
-use Rattle.tallied.proofs.Outcome as O
-use Rattle.tallied.proofs.Outcome.Laws as O′
+use Rattle.tallying.proofs.Outcome as O
+use Rattle.tallying.proofs.Outcome.Laws as O′
 use Rattle.lent.proofs.Data.{Datum, Pair, struct, enum}
 
 abbrev pub session : Datum

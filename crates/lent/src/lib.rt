@@ -1,14 +1,14 @@
-// The calls on the bench's session, which is lent, and which each call moves on: SPEC, "Calls". Each calls the one of `tallied` that takes it by value,
+// The calls on the bench's session, which is lent, and which each call moves on: SPEC, "Calls". Each calls the one of `tallied` or `tallying` that takes it by value,
 // and has the same contract.
 ghost use mathlib.Core.List.{[]};
 ghost use Rattle.calls.specs.Session.{reading, rewind as rewinding, clear as clearing, plain, imageOf, shortest as shortestOf};
 ghost use mathlib.Core.Path.{_≡_};
 ghost use Rattle.stages.specs.Session.{Steps};
-ghost use Rattle.tallied.specs.Tallied.{Moves, Deals};
+ghost use Rattle.tallying.specs.Tallied.{Moves, Deals};
 use ring::Point;
 use session::Answer;
-use tallied::Tallied;
 use tally::Tally;
+use tallying::Tallied;
 
 // One reading: a record from the front of the bytes joins the session, or is refused.
 pub fn read(s: &mut Tallied, bytes: &[u8]) -> Answer
@@ -41,7 +41,7 @@ pub fn rewind(s: &mut Tallied) -> Answer
 pub fn clear(s: &mut Tallied) -> Answer
     ensures { λ r. ⌜ Moves clearing [] (now (s .entry)) (now (s .exit)) r ⌝ }
 {
-    let r = tallied::clear(*s);
+    let r = tallying::clear(*s);
     *s = r.session;
     r.answer
 }
@@ -71,5 +71,5 @@ pub fn shortest(s: &Tallied) -> Answer
 pub fn tally(s: &Tallied) -> Tally
     ensures { λ r. ⌜ r ≡ now (s .entry) .tally ⌝ }
 {
-    tallied::tally(*s)
+    tallying::tally(*s)
 }

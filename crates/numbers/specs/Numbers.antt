@@ -19,7 +19,8 @@ use Rattle.calls.specs.Session.{refused, taken, handed, done, says, best}
 use Rattle.calls.specs.Session as Model
 use Rattle.words.specs.declared.Size.{Size}
 use Rattle.tally.specs.declared.Tally.{Tally}
-use Rattle.tallied.specs.declared.Tallied.{Tallied}
+use Rattle.tallying.specs.declared.Tallied.{Tallied}
+use Rattle.tallying.specs.declared.Outcome.{Outcome}
 use Rattle.stages.specs.declared.Parts.the-variants.{Nothing, Scaled, Selected, First}
 use Rattle.stages.specs.declared.Course.{Course}
 use Rattle.stages.specs.declared.Stage.{Stage}
@@ -36,6 +37,7 @@ use Rattle.numbers.specs.declared.Count.{Count}
 use Rattle.numbers.specs.declared.Counts.{Counts}
 use Rattle.numbers.specs.declared.State.{State}
 use Rattle.numbers.specs.declared.Reply.{Reply}
+use Rattle.numbers.specs.declared.Left.{Left}
 
 abbrev pub isSet : ℕ → Bool
 isSet x = not (eqb x 0)
@@ -190,3 +192,8 @@ reply-any A.Done l = refl
 reply-any (A.Says b) l = refl
 reply-any (A.Least k u t) l = refl
 reply-any (A.Refused f) l = refl
+
+-- what a call leaves
+pub record LeftOf (o : Outcome) (r : Left) : Type 0 where
+  pub session : benchOf (r .session) ≡ o .session
+  pub reply : r .reply ≡ replyOf (answerOf [] (o .answer))

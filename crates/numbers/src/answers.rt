@@ -1,14 +1,17 @@
-// The numbers of an answer.
+// The numbers of an answer, and of what a call leaves.
 ghost use mathlib.Core.Path.{_≡_};
 ghost use mathlib.Core.List.{[]};
 ghost use Rattle.stages.specs.Session.{answerOf};
-ghost use Rattle.numbers.specs.Numbers.{told, leastOf, replyOf};
+ghost use Rattle.numbers.specs.Numbers.{told, leastOf, replyOf, LeftOf};
 use crate::Four;
+use crate::Left;
 use crate::Reply;
 use crate::forth::flag;
 use crate::forth::four_of;
+use crate::forth::state_of;
 use ring::Point;
-use session::Answer;
+use stages::Answer;
+use tallying::Outcome;
 
 const ORIGIN: Four = Four {
     a: 0,
@@ -58,5 +61,19 @@ pub fn reply_of(a: Answer) -> Reply
         Answer::Says(yes) => told(4, 0, yes, 0),
         Answer::Least(k, u, t) => least(k, u, t),
         Answer::Refused(f) => told(0, f.number(), false, 0),
+    }
+}
+
+// What a call leaves: the numbers of its session and of its answer.
+pub fn leaving(o: Outcome) -> Left
+    ensures { λ r. ⌜ LeftOf o r ⌝ }
+{
+    let s = o.session;
+    let a = o.answer;
+    let session = state_of(s);
+    let reply = reply_of(a);
+    Left {
+        session: session,
+        reply: reply,
     }
 }

@@ -13,11 +13,11 @@ use region::Rectangle;
 use region::Region;
 use region::Slice;
 use ring::Point;
-use session::Parts;
-use session::Session;
-use session::Stage;
 use stages::Course;
-use tallied::Tallied;
+use stages::Parts;
+use stages::Session;
+use stages::Stage;
+use tallying::Tallied;
 use walk::Spot;
 
 // Whether a flag is set: it is not 0.

@@ -14,10 +14,10 @@ use region::Rectangle;
 use region::Region;
 use region::Slice;
 use ring::Point;
-use session::Parts;
-use session::Stage;
 use stages::Course;
-use tallied::Tallied;
+use stages::Parts;
+use stages::Stage;
+use tallying::Tallied;
 use walk::Spot;
 
 const ORIGIN: Four = Four {

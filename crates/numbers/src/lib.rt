@@ -5,6 +5,7 @@ mod back;
 mod forth;
 mod tallies;
 
+pub use answers::leaving;
 pub use answers::reply_of;
 pub use answers::told;
 pub use back::is_set;
@@ -101,4 +102,11 @@ pub struct Reply {
     pub count: usize,
     pub u: Four,
     pub t: Four,
+}
+
+// The session that a call leaves, and its answer.
+#[repr(C)]
+pub struct Left {
+    pub session: State,
+    pub reply: Reply,
 }

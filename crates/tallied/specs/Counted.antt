@@ -45,9 +45,9 @@ use Rattle.kinds.specs.declared.Turn.the-variants as T
 use Rattle.session.specs.Run.{Made, answered, exchangesOf, sinceOf, link-steps}
 use Rattle.session.specs.RunCalls.{listOf, run-first, run-count}
 use Rattle.session.specs.RunWalk.{handedOut}
-use Rattle.tallied.specs.declared.Tallied.{Tallied}
-use Rattle.tallied.specs.Tallied.{fresh, tallyAfter}
-use Rattle.tallied.specs.Points.{all-counted}
+use Rattle.tallying.specs.declared.Tallied.{Tallied}
+use Rattle.tallying.specs.Tallied.{fresh, tallyAfter}
+use Rattle.tallying.specs.Points.{all-counted}
 use Rattle.tallied.specs.Run.{TallyLink, TallyFrom, none, then, TallyRun, session-link, session-run, link-tally}
 
 -- a hand-out's count; a refused one has none

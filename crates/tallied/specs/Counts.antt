@@ -8,8 +8,8 @@ use Rattle.tally.specs.declared.Tally.{Tally}
 use Rattle.stages.specs.World.{world}
 use Rattle.stages.specs.Session.{meaning, scaleOf}
 use Rattle.session.specs.Run.{Made, callsOf, link-answer, link-session}
-use Rattle.tallied.specs.declared.Tallied.{Tallied}
-use Rattle.tallied.specs.Tallied.{tallyAfter}
+use Rattle.tallying.specs.declared.Tallied.{Tallied}
+use Rattle.tallying.specs.Tallied.{tallyAfter}
 use Rattle.tallied.specs.Run.{TallyLink, TallyFrom, none, then, session-link, link-tally}
 
 abbrev pub countsAt : Call world → Model.Session world → Tally → Tally

@@ -12,8 +12,8 @@ use Rattle.tally.specs.Spread.{nothing}
 use Rattle.stages.specs.World.{world}
 use Rattle.stages.specs.Session.{meaning, scaleOf}
 use Rattle.session.specs.Run.{Made, callsOf}
-use Rattle.tallied.specs.declared.Tallied.{Tallied}
-use Rattle.tallied.specs.Tallied.{fresh, grown}
+use Rattle.tallying.specs.declared.Tallied.{Tallied}
+use Rattle.tallying.specs.Tallied.{fresh, grown}
 use Rattle.tallied.specs.Run.{TallyRun}
 use Rattle.tallied.specs.Counts.{countsAt, countsAfter, from-counts}
 

@@ -11,8 +11,8 @@ use Rattle.stages.specs.World.{world}
 use Rattle.stages.specs.Session.{meaning, scaleOf}
 use Rattle.session.specs.Run.{Made, callsOf, answered, link-answer}
 use Rattle.session.specs.RunCalls.{kept, kept-calls}
-use Rattle.tallied.specs.declared.Tallied.{Tallied}
-use Rattle.tallied.specs.Tallied.{fresh, grown}
+use Rattle.tallying.specs.declared.Tallied.{Tallied}
+use Rattle.tallying.specs.Tallied.{fresh, grown}
 use Rattle.tallied.specs.Run.{TallyLink, TallyRun, session-link, session-run}
 use Rattle.tallied.specs.Counts.{countsAt, countsAfter, link-counts, from-counts}
 

@@ -10,8 +10,8 @@ use Rattle.session.specs.Run.{Made, Link, From, answered}
 use Rattle.session.specs.Run as S
 use Rattle.stages.specs.declared.Answer.{Answer}
 use Rattle.stages.specs.Session.{meaning, scaleOf, Steps}
-use Rattle.tallied.specs.declared.Tallied.{Tallied}
-use Rattle.tallied.specs.Tallied.{fresh, tallyAfter, Moves, Deals}
+use Rattle.tallying.specs.declared.Tallied.{Tallied}
+use Rattle.tallying.specs.Tallied.{fresh, tallyAfter, Moves, Deals}
 
 -- the contracts of `read`, `hand_out`, `rewind`, `clear`, `has_solution`, `has_image`, `shortest`: what is found, the call, what is left
 pub data TallyLink : Tallied → Made → Tallied → Type 0 where

@@ -1,14 +1,14 @@
--- `clear` is lent the session alone, and calls `tallied::clear`.
+-- `clear` is lent the session alone, and calls `tallying::clear`.
 use mathlib.Core.List.{[]}
 use contract.Running.{givenOf, tables, tablesOf}
 use denote.Triple.Spec.{tripleOf}
 use denote.Triple.Table.{entered, cited}
 use Rattle.calls.specs.Session as Model
-use Rattle.tallied.specs.Tallied.{Moves}
-use Rattle.tallied.proofs.clear as value
-use Rattle.tallied.proofs.clear.Symbol as value-def
-use Rattle.tallied.proofs.clear.Symbol.{name as #value}
-use Rattle.tallied.proofs.clear.Met as value-thm
+use Rattle.tallying.specs.Tallied.{Moves}
+use Rattle.tallying.proofs.clear as value
+use Rattle.tallying.proofs.clear.Symbol as value-def
+use Rattle.tallying.proofs.clear.Symbol.{name as #value}
+use Rattle.tallying.proofs.clear.Met as value-thm
 use Rattle.lent.proofs.Types.{outcome}
 use Rattle.lent.proofs.Lent.{lent}
 use Rattle.lent.proofs.clear.Key.{name as #self}
@@ -22,4 +22,4 @@ clear-spec 𝓤 H 𝓜 𝓖 𝓡 =
     entered 𝓤 H (tripleOf 𝓤 H (𝓖 .A) self.signature (self.spec 𝓤 H (𝓖 .A) (𝓜 .mem) (𝓡 .run)))
     (tables 𝓤 H 𝓜 𝓡 code.env .C) (tables 𝓤 H 𝓜 𝓡 code.env .Λ) #self code.function (code.unfolded 𝓤 H 𝓜 𝓡)
     (lent outcome #value (Moves Model.clear []) 𝓤 H (𝓖 .A) (givenOf 𝓤 H 𝓜 𝓖) (tablesOf 𝓤 H 𝓜 (tables 𝓤 H 𝓜 𝓡 code.env))
-    (cited 𝓤 H (tripleOf 𝓤 H (𝓖 .A) value.signature (value.spec 𝓤 H (𝓖 .A) (𝓜 .mem) (𝓡 .run))) 𝓜 𝓡 code.env #value value-def.routine code.calls-tallied·clear (value-thm.met 𝓤 H 𝓜 𝓖 𝓡)))
+    (cited 𝓤 H (tripleOf 𝓤 H (𝓖 .A) value.signature (value.spec 𝓤 H (𝓖 .A) (𝓜 .mem) (𝓡 .run))) 𝓜 𝓡 code.env #value value-def.routine code.calls-tallying·clear (value-thm.met 𝓤 H 𝓜 𝓖 𝓡)))

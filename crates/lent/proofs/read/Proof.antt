@@ -4,7 +4,7 @@ use contract.Running.{givenOf, tables, tablesOf}
 use denote.Triple.Spec.{tripleOf}
 use denote.Triple.Table.{entered, cited}
 use Rattle.calls.specs.Session.{reading}
-use Rattle.tallied.specs.Tallied.{Moves}
+use Rattle.tallying.specs.Tallied.{Moves}
 use Rattle.tallied.proofs.read as value
 use Rattle.tallied.proofs.read.Symbol as value-def
 use Rattle.tallied.proofs.read.Symbol.{name as #value}

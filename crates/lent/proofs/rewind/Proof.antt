@@ -4,7 +4,7 @@ use contract.Running.{givenOf, tables, tablesOf}
 use denote.Triple.Spec.{tripleOf}
 use denote.Triple.Table.{entered, cited}
 use Rattle.calls.specs.Session as Model
-use Rattle.tallied.specs.Tallied.{Moves}
+use Rattle.tallying.specs.Tallied.{Moves}
 use Rattle.tallied.proofs.rewind as value
 use Rattle.tallied.proofs.rewind.Symbol as value-def
 use Rattle.tallied.proofs.rewind.Symbol.{name as #value}

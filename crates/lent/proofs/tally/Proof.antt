@@ -1,12 +1,12 @@
--- `tally` looks at the session, and calls `tallied::tally`.
+-- `tally` looks at the session, and calls `tallying::tally`.
 use mathlib.Core.Path.{_≡_}
 use contract.Running.{givenOf, tables, tablesOf}
 use denote.Triple.Spec.{tripleOf}
 use denote.Triple.Table.{entered, cited}
-use Rattle.tallied.proofs.tally as value
-use Rattle.tallied.proofs.tally.Symbol as value-def
-use Rattle.tallied.proofs.tally.Symbol.{name as #value}
-use Rattle.tallied.proofs.tally.Met as value-thm
+use Rattle.tallying.proofs.tally as value
+use Rattle.tallying.proofs.tally.Symbol as value-def
+use Rattle.tallying.proofs.tally.Symbol.{name as #value}
+use Rattle.tallying.proofs.tally.Met as value-thm
 use Rattle.lent.proofs.Types.{session, tally}
 use Rattle.lent.proofs.Shared.{shared}
 use Rattle.lent.proofs.tally.Key.{name as #self}
@@ -20,4 +20,4 @@ tally-spec 𝓤 H 𝓜 𝓖 𝓡 =
     entered 𝓤 H (tripleOf 𝓤 H (𝓖 .A) self.signature (self.spec 𝓤 H (𝓖 .A) (𝓜 .mem) (𝓡 .run)))
     (tables 𝓤 H 𝓜 𝓡 code.env .C) (tables 𝓤 H 𝓜 𝓡 code.env .Λ) #self code.function (code.unfolded 𝓤 H 𝓜 𝓡)
     (shared session tally #value (λ s r. r ≡ s .tally) 𝓤 H (𝓖 .A) (givenOf 𝓤 H 𝓜 𝓖) (tablesOf 𝓤 H 𝓜 (tables 𝓤 H 𝓜 𝓡 code.env))
-    (cited 𝓤 H (tripleOf 𝓤 H (𝓖 .A) value.signature (value.spec 𝓤 H (𝓖 .A) (𝓜 .mem) (𝓡 .run))) 𝓜 𝓡 code.env #value value-def.routine code.calls-tallied·tally (value-thm.met 𝓤 H 𝓜 𝓖 𝓡)))
+    (cited 𝓤 H (tripleOf 𝓤 H (𝓖 .A) value.signature (value.spec 𝓤 H (𝓖 .A) (𝓜 .mem) (𝓡 .run))) 𝓜 𝓡 code.env #value value-def.routine code.calls-tallying·tally (value-thm.met 𝓤 H 𝓜 𝓖 𝓡)))
