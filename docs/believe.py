@@ -30,6 +30,7 @@ ROOTS = [
     ("Ticket 14, pattern sheets", {"sheet/src/lib.rt": "read write", "sheet/specs/Crew.antt": "crew-same crew-blind"}),
     ("What the list program prints", {"printing/src/lib.rt": "print_list"}),
     ("What the other programs print", {"pattern_text/src/lib.rt": "put", "job_words/src/lib.rt": "put", "qasm_file/src/lib.rt": "put_file"}),
+    ("`job` of what `show` prints", {"record_text/src/lib.rt": "put", "show/specs/Show.antt": "shown-refused", "show/specs/Back.antt": "shown-back"}),
     ("No word at all is shorter", {"t_count/specs/Calls.antt": "run-fewest run-beyond"}),
 ]
 NAME = r"[^\s(){}\[\],;`\"'.:λ∀→×≡¬]+"

@@ -41,13 +41,13 @@ for ((i = 0; i < count; i++)); do
     same unqasm unqasm "$scratch/file"
     same unqasm unqasm "$scratch/bytes"
 done
-# 65,536 bytes of records, those of 65,553, and texts of 458,752 bytes and one more
+# 65,526 bytes of records, 65,543 of them, and texts of 458,752 bytes and one more
 { printf 'scale 3\nselection all\n'; printf 'rectangle 9 %d 8 -7 10000\n' -8 -10000; printf 'operator 0 0 0 -1 0 -1 0 0\n%.0s' {1..3852}; } >"$scratch/text"
 for longer in '' $'operator 0 0 0 1 0 1 0 0\n'; do
     printf %s "$longer" >>"$scratch/text"
     same job pack "$scratch/text"
 done
-head -n 3854 "$scratch/text" >"$scratch/said"
+head -n 3856 "$scratch/text" >"$scratch/said"
 "$bin/job" <"$scratch/said" >"$scratch/records"
 again "$scratch/records"
 { cat "$scratch/said"; head -c $((458752 - $(wc -c <"$scratch/said"))) /dev/zero | tr '\0' ' '; } >"$scratch/text"

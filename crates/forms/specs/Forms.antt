@@ -11,10 +11,11 @@ use Rattle.fields.specs.Field.{unsignedAt, signedAt}
 use Rattle.fields.specs.Bytes.{littleEndian, bitsOf}
 use Rattle.forms.specs.declared.Field.{Field}
 
-abbrev u : ℕ → Field
+-- an unsigned field of so many bytes, and a signed one
+abbrev pub u : ℕ → Field
 u n = record { signed = false; size = n }
 
-abbrev i : ℕ → Field
+abbrev pub i : ℕ → Field
 i n = record { signed = true; size = n }
 
 -- the fields of a body, in their order

@@ -3,7 +3,7 @@ use mathlib.Core.Path.{_≡_, refl, sym, ap, ap₂, _∙_}
 use mathlib.Core.Bool.{Bool, true, false, not, cond}
 use mathlib.Core.Logic.{_⊎_, inl, inr}
 use mathlib.Core.List.{List, [], _∷_, _++_, map, append-nil, append-assoc}
-use Prim.Native.Nat.{ℕ, zero, suc, _+_, _-_, _*_, _^_, _≤_, _<_, min}
+use Prim.Native.Nat.{ℕ, zero, suc, _+_, _-_, _^_, _≤_, _<_, min}
 use native.Mathlib.Nat.{mul-le-mul, lt-of-le-of-lt, min-eq-left, min-eq-right}
 use native.Mathlib.Decide.{decLe}
 use native.Mathlib.Omega.{arith}
@@ -17,7 +17,7 @@ use Rattle.kinds.specs.declared.Kind.{Kind}
 use Rattle.kinds.specs.declared.Kind.the-variants as K
 use Rattle.kinds.specs.Kinds.{bodyLength}
 use Rattle.forms.specs.declared.Field.{Field}
-use Rattle.forms.specs.Forms.{fieldsOf, takes, takesAll, fieldBytes, bodyBytes, recordBytes}
+use Rattle.forms.specs.Forms.{fieldsOf, takes, takesAll, recordBytes}
 use Rattle.forms.specs.Back.{size-kind, length-body}
 use Rattle.forms.specs.Laid.{Slate, laid, Laid, laid-append}
 use Rattle.text_scan.specs.Run.{run, runEnd, isByte, spacesFrom, wordEnd, lineEnd}
@@ -26,7 +26,7 @@ use Rattle.wording.specs.Names.{placeOf}
 use Rattle.wording.specs.Bytes.{wordFrom, nextFrom}
 use Rattle.wording.specs.Numbers.{Listed, numbers, numbersFrom, listedOf}
 use Rattle.wording.specs.Numbers as W
-use Rattle.input_lines.specs.Lines.{lastLine, linesWith, linesOf}
+use Rattle.input_lines.specs.Lines.{lastLine, linesWith}
 use Rattle.list_lines.specs.Lines.{tooLongLine}
 use Rattle.texts.specs.Texts.{numberTexts}
 use Rattle.texts.specs.Puts.{Puts, puts, joined, weaken}

@@ -5,8 +5,7 @@ ghost use Prim.Native.Nat.{_+_, _≤_};
 ghost use lib.IntN.{pos};
 ghost use lib.ListN.{length, take};
 ghost use Rattle.kinds.specs.Kinds.{bodyLength};
-ghost use Rattle.forms.specs.Forms.{fieldsOf, numberAt, numbersAt};
-ghost use Rattle.record_text.specs.Records.{u, i};
+ghost use Rattle.forms.specs.Forms.{u, i, fieldsOf, numberAt, numbersAt};
 use kinds::Kind;
 
 // The first `count`.

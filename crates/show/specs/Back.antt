@@ -1,16 +1,14 @@
 -- `job` of what `show` prints for a job is the job's bytes. Assumes nothing.
 use mathlib.Core.Path.{_≡_, refl, sym, ap, _∙_}
 use mathlib.Core.Bool.{Bool}
-use mathlib.Core.List.{List, [], _∷_, _++_}
-use Prim.Native.Nat.{ℕ, zero, suc, _+_, _*_, _≤_}
+use mathlib.Core.List.{List, [], _∷_}
+use Prim.Native.Nat.{ℕ, zero, suc, _+_, _≤_}
 use native.Mathlib.Decide.{decLe}
 use native.Mathlib.Omega.{arith}
-use lib.IntN.{ℤ}
 use lib.ListN.{length, drop, length-drop}
-use Rattle.kinds.specs.declared.Kind.{Kind}
 use Rattle.kinds.specs.declared.Turn.{Turn}
 use Rattle.kinds.specs.declared.Turn.the-variants as T
-use Rattle.kinds.specs.Kinds.{kindOf, bodyLength, isKnown}
+use Rattle.kinds.specs.Kinds.{kindOf, bodyLength}
 use Rattle.record.specs.declared.Reading as D
 use Rattle.record.specs.declared.Reading.the-variants as RV
 use Rattle.record.specs.declared.Record.{Record}
@@ -25,17 +23,17 @@ use Rattle.calls.specs.Session as Model
 use Rattle.stages.specs.declared.Parts.{Parts}
 use Rattle.stages.specs.declared.Parts.the-variants.{Nothing, Scaled, Selected, First}
 use Rattle.stages.specs.Session.{meaning, fresh}
-use Rattle.stages.specs.World.{world, turnAt, placeScale, placeSelection, placeRegion, place, note, partReading, operatorReading}
-use Rattle.forms.specs.Forms.{fieldsOf, numbersAt, recordBytes}
+use Rattle.stages.specs.World.{world, turnAt, placeScale, placeSelection, placeRegion, partReading, operatorReading}
 use Rattle.forms.specs.Back.{Bytes}
 use Rattle.record_text.specs.Lines.{textOf}
 use Rattle.record_text.specs.Texts.{joined-texts}
-use Rattle.record_text.specs.Records.{isWhole, recordsIn, shownTexts, bytes-drop, records-size, whole-long, whole-known}
+use Rattle.record_text.specs.Records.{recordsIn, whole-long, whole-known}
+use Rattle.record_text.specs.Sizes.{bytes-drop, records-size}
 use Rattle.record_lines.specs.Text.{Proper, recordsOf, text-back}
 use Rattle.job_words.specs.Rows.{jobOf}
 use Rattle.readback.specs.Again.{record-again}
 use Rattle.readback.specs.Whole.{accepted-whole}
-use Rattle.input.specs.Load.{Loaded, ready, tooLong, finished, onward, records, most, loadOf}
+use Rattle.input.specs.Load.{ready, tooLong, onward, records, most, loadOf}
 use Rattle.input.specs.Reading.{load-long, load-records}
 use Rattle.show.specs.Show.{showOf}
 
@@ -121,20 +119,19 @@ load-whole (suc n) m z at (b ∷ s) bytes h e = go (step world (reading (b ∷ s
     go (best c, t) w e rest = absurd w
 
 -- ---- the job
-module _ (s : List ℕ) (z : Model.Session world) (accepted : loadOf s ≡ ready z) where
-  pub ready-short : length s ≤ 65536
-  ready-short = elim (decLe (length s) most) [
-    | yes k ↦ k
-    | no k ↦ absurd (let e : tooLong ≡ ready z = sym (load-long s (omega arith)) ∙ accepted in let y : _≡_ {A = ℕ} 0 1 = cc in omega arith)
-  ]
+pub ready-short : (s : List ℕ) (z : Model.Session world) → loadOf s ≡ ready z → length s ≤ 65536
+ready-short s z accepted = elim (decLe (length s) most) [
+  | yes k ↦ k
+  | no k ↦ absurd (let e : tooLong ≡ ready z = sym (load-long s (omega arith)) ∙ accepted in let y : _≡_ {A = ℕ} 0 1 = cc in omega arith)
+]
 
-  -- whatever `list` accepts, without a word on the text's length
-  pub shown-back : Bytes s → jobOf (showOf s) ≡ s
-  unfolding Whole
-  shown-back bytes =
-      let rs = recordsIn (length s) s in
-      let short = ready-short in
-      let w = load-whole (length s) (meaning fresh) z 0 s bytes (omega arith) (sym (load-records s short) ∙ accepted) in
-      let e : showOf s ≡ textOf rs = rw accepted (joined-texts rs) in
-      let n = records-size (length s) s bytes in
-      ap jobOf e ∙ text-back rs (w .0) (omega arith) (rw (w .1) short) ∙ w .1
+-- whatever `list` accepts, without a word on lengths
+pub shown-back : (s : List ℕ) (z : Model.Session world) → Bytes s → loadOf s ≡ ready z → jobOf (showOf s) ≡ s
+unfolding Whole
+shown-back s z bytes accepted =
+    let rs = recordsIn (length s) s in
+    let short = ready-short s z accepted in
+    let w = load-whole (length s) (meaning fresh) z 0 s bytes (omega arith) (sym (load-records s short) ∙ accepted) in
+    let e : showOf s ≡ textOf rs = rw accepted (joined-texts rs) in
+    let n = records-size (length s) s bytes in
+    ap jobOf e ∙ text-back rs (w .0) (omega arith) (rw (w .1) short) ∙ w .1

@@ -1,5 +1,5 @@
 use native.Mathlib.Omega.{arith}
-use mathlib.Core.Path.{_≡_, refl, sym, ap, _∙_}
+use mathlib.Core.Path.{_≡_, refl, sym, _∙_}
 use mathlib.Core.Bool.{true}
 use mathlib.Core.List.{List}
 use Prim.Native.Nat.{ℕ, _+_, _-_, _≤_}
@@ -11,7 +11,8 @@ use Rattle.kinds.specs.Kinds.{bodyLength}
 use Rattle.forms.specs.Forms.{fieldsOf, numbersAt}
 use Rattle.texts.specs.Puts.{puts}
 use Rattle.record_text.specs.Texts.{textsOf, puts-same, texts-more, texts-none}
-use Rattle.record_text.specs.Records.{isWhole, recordsIn, shownTexts, shown-size, whole-long, records-end, records-stop, records-more}
+use Rattle.record_text.specs.Sizes.{shown-size}
+use Rattle.record_text.specs.Records.{recordsIn, shownTexts, whole-long, records-end, records-stop, records-more}
 use Rattle.record_text.proofs.put.Statement.{statement}
 use Rattle.record_text.proofs.put.Tie as tie
 
