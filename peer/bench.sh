@@ -86,16 +86,16 @@ parts() {
     echo "Unit disks at scale 12, all points, by the clock: list, two parts side by side, ratio, load"
     for _ in 1 2 3; do
         began=$EPOCHREALTIME
-        "$bin/list" <"$scratch/parts.job" >"$scratch/whole"
+        "$bin/list" <"$scratch/parts.job" >/dev/null
         least_list=$(least "$least_list" "$(seconds "$began")")
         began=$EPOCHREALTIME
-        "$bin/part" -2147483648 -1 <"$scratch/parts.job" >"$scratch/low" &
-        "$bin/part" 0 2147483647 <"$scratch/parts.job" >"$scratch/high"
+        "$bin/part" -2147483648 -1 <"$scratch/parts.job" >/dev/null &
+        "$bin/part" 0 2147483647 <"$scratch/parts.job" >/dev/null
         wait $!
         least_parts=$(least "$least_parts" "$(seconds "$began")")
     done
-    cat "$scratch/low" "$scratch/high" | cmp -s - <(head -n -1 "$scratch/whole") || { echo 'the parts are not the list' >&2; exit 1; }
-    rm "$scratch/whole" "$scratch/low" "$scratch/high"
+    cmp -s <("$bin/part" -2147483648 -1 <"$scratch/parts.job"; "$bin/part" 0 2147483647 <"$scratch/parts.job") <("$bin/list" <"$scratch/parts.job" | head -n -1) ||
+        { echo 'the parts are not the list' >&2; exit 1; }
     awk -v a="$least_list" -v b="$least_parts" -v l="$(cut -d ' ' -f 1 /proc/loadavg)" 'BEGIN { printf "%.2f %.2f %.2f %s\n", a, b, b / a, l }'
 }
 

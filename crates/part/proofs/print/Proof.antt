@@ -1,5 +1,5 @@
 -- `print` meets its contract. Assumes nothing.
-use mathlib.Core.Path.{_≡_, sym, ap, _∙_}
+use mathlib.Core.Path.{sym, ap, _∙_}
 use mir.Facts.{toZ-ofZ}
 use Rattle.input.specs.Load.{loadedOf}
 use Rattle.part.specs.Answered.{long-part, refusal-part, ready-part}
