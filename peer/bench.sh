@@ -1,7 +1,7 @@
 #!/usr/bin/env bash
 # bench.sh BIN: everything that docs/BENCHMARKS.md reports. BIN has the proved
-# programs list, count and console (target/bin). Times are processor seconds,
-# user and system, of whole runs, as the machine may be shared. LIMIT sets the
+# programs (target/bin). Times are processor seconds, user and system, of whole
+# runs, as the machine may be shared, but for those of parts. LIMIT sets the
 # seconds by the clock that a call may take, 10 if unset, and LIST_LIMIT those
 # of a whole list, 60 if unset. The skewed jobs are many: EVERY=n takes each
 # n-th of them, 1 if unset. HARD sets the number of hard random jobs of each
@@ -73,6 +73,30 @@ limit() {
         awk -v name="$name" -v t="$took" -v n="$points" \
             '{ printf "%-24s %8s %8.2f %6.1f\n", name, $1, t * 1e9 / n, t * 1e9 / n / $1 }' "$scratch/said"
     done
+}
+
+# A list on two cores: unit disks at scale 12, all points, by `list` and by two
+# `part`s side by side, cut at a = 0. Here the time is the clock's, the least of
+# three runs. The target is 0.6 of the list's.
+parts() {
+    local began took least_list='' least_parts=''
+    seconds() { awk -v a="$1" -v b="$EPOCHREALTIME" 'BEGIN { printf "%.3f", b - a }'; }
+    least() { awk -v a="$1" -v b="$2" 'BEGIN { print (a == "" || b < a) ? b : a }'; }
+    printf 'scale 12\nselection all\ndisk 1\ndisk 1\n' | "$bin/job" >"$scratch/parts.job"
+    echo "Unit disks at scale 12, all points, by the clock: list, two parts side by side, ratio, load"
+    for _ in 1 2 3; do
+        began=$EPOCHREALTIME
+        "$bin/list" <"$scratch/parts.job" >/dev/null
+        least_list=$(least "$least_list" "$(seconds "$began")")
+        began=$EPOCHREALTIME
+        "$bin/part" -2147483648 -1 <"$scratch/parts.job" >/dev/null &
+        "$bin/part" 0 2147483647 <"$scratch/parts.job" >/dev/null
+        wait $!
+        least_parts=$(least "$least_parts" "$(seconds "$began")")
+    done
+    cmp -s <("$bin/part" -2147483648 -1 <"$scratch/parts.job"; "$bin/part" 0 2147483647 <"$scratch/parts.job") <("$bin/list" <"$scratch/parts.job" | head -n -1) ||
+        { echo 'the parts are not the list' >&2; exit 1; }
+    awk -v a="$least_list" -v b="$least_parts" -v l="$(cut -d ' ' -f 1 /proc/loadavg)" 'BEGIN { printf "%.2f %.2f %.2f %s\n", a, b, b / a, l }'
 }
 
 # Unit disks at scales above 12, whose lists are too long to be taken whole:
@@ -342,6 +366,8 @@ hard_jobs() {
 whole_lists
 echo
 limit
+echo
+parts
 echo
 deep_lists
 echo

@@ -1,9 +1,8 @@
 -- A page of a segment: what is shown of a hand-out, cut where a goes past hi, and what is left after it.
-use mathlib.Core.Path.{_≡_, refl, sym, ap, ap₂, subst, _∙_}
+use mathlib.Core.Path.{_≡_, refl, sym, ap, ap₂, _∙_}
 use mathlib.Core.Bool.{Bool, true, false, cond}
-use mathlib.Core.List.{List, [], _∷_, _++_, append-assoc, append-nil, map}
-use Prim.Native.Nat.{ℕ, suc, _+_, _*_, _≤_, _<_}
-use native.Mathlib.Decide.{decLt}
+use mathlib.Core.List.{List, [], _∷_, _++_, append-assoc, append-nil}
+use Prim.Native.Nat.{ℕ, suc, _*_, _≤_, _<_}
 use native.Mathlib.Omega.{arith}
 use lib.Dec.{ltb}
 use lib.IntN.{ℤ, pos, _+ℤ_}
@@ -16,7 +15,7 @@ use Rattle.ring.specs.declared.Point.{Point}
 use Rattle.region.specs.declared.Job.{Job}
 use Rattle.ranks.specs.Rest.{rest, Place, at, ended, placeOf, leftAt, left-place, next-drop}
 use Rattle.ranks.specs.Rank.{top}
-use Rattle.ranks.specs.Handed.{flat, flat-append, put, take-put, length-flat, Gave}
+use Rattle.ranks.specs.Handed.{flat, flat-append, take-put, length-flat, Gave}
 use Rattle.points.specs.Digits.{span}
 use Rattle.points.specs.Slices.{pointsOf, flat-points}
 use Rattle.lists.specs.Walk.{listedAt, pointOf, rankOf, numbersOf, full}

@@ -15,23 +15,31 @@ use transfer::Transfer;
 pub fn print(text: &[u8]) -> bool
     ensures { λ r. ⌜ Sent (now (text .entry)) r ⌝ }
 {
+    let sent = send(STDOUT_FILENO, text);
+    if !sent {
+        os::fail(b"standard output");
+    }
+    sent
+}
+
+// Writes the text to a descriptor: whether all of it was taken.
+pub fn send(fd: i32, text: &[u8]) -> bool
+    ensures { λ r. ⌜ Sent (now (text .entry)) r ⌝ }
+{
     let mut t = transfer::begin(text.len());
     while t.more {
-        t = offer(text, t);
-    }
-    if t.failed {
-        os::fail(b"standard output");
+        t = offer(fd, text, t);
     }
     !t.failed
 }
 
 // A write of what is left of the text, and the step that the system's answer makes.
-fn offer(text: &[u8], t: Transfer) -> Transfer
+fn offer(fd: i32, text: &[u8], t: Transfer) -> Transfer
     requires { ⌜ t .at ≤ length (now text) ⌝ }
     ensures { λ r. ⌜ Turn (now (text .entry)) t r ⌝ }
 {
     let at = t.at;
-    let got = libc::write(STDOUT_FILENO, &text[at..]);
+    let got = libc::write(fd, &text[at..]);
     let a = transfer::judged(got, os::errno());
     let p = t.patience;
     wait::after(a, p);

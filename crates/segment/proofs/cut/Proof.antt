@@ -8,7 +8,6 @@ use mir.Syntax.{w32}
 use mir.Val.{SFits, toZ}
 use mir.Facts.{toZ-ofZ}
 use borrow.Author.Needs.{needs}
-use Rattle.points.specs.Slices.{pointAt}
 use Rattle.segment.specs.Segment.{upTo}
 use Rattle.segment.specs.Cut.{led, led-next, led-stop, past, not-past}
 use Rattle.segment.proofs.cut.Statement.{statement}

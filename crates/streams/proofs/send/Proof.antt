@@ -1,4 +1,4 @@
--- `print` meets its contract: its turns are a run of the machine. It ends since each leaves less to do. Assumes nothing.
+-- `send` meets its contract: its turns are a run of the machine. It ends since each leaves less to do. Assumes nothing.
 use mathlib.Core.Path.{refl}
 use mathlib.Core.Bool.{true}
 use mathlib.Core.List.{[]}
@@ -7,14 +7,14 @@ use Rattle.transfer.specs.Answers.{answerOf}
 use Rattle.transfer.specs.Transfer.{load, step-less}
 use Rattle.transfer.specs.Sending.{begun, Going, go-on, run-stands}
 use borrow.Author.Needs.{needs}
-use Rattle.streams.proofs.print.Statement.{statement}
-use Rattle.streams.proofs.print.Tie as tie
+use Rattle.streams.proofs.send.Statement.{statement}
+use Rattle.streams.proofs.send.Tie as tie
 
 abbrev Inv-loop : tie.InvT-loop
-Inv-loop text t₀ t3 t = Going text t
+Inv-loop fd text t₀ t = Going text t
 
 abbrev μ-loop : tie.MeasureT-loop
-μ-loop text t₀ t3 t = load (length text) t
+μ-loop fd text t₀ t = load (length text) t
 
 begin-requires : tie.Need-begin-requires Inv-loop μ-loop
 begin-requires c κs = search needs
@@ -34,20 +34,14 @@ loop-less c =
 loop-again : tie.Need-loop-again Inv-loop μ-loop
 loop-again c = go-on (c .before .before .loop .inv) (c .before .loop-test .taken) (c .offer .ensures)
 
-slice-aggregate-fail : tie.Need-slice-aggregate-fail Inv-loop μ-loop
-slice-aggregate-fail c = search needs
-
-fail-requires : tie.Need-fail-requires Inv-loop μ-loop
-fail-requires c κs = search needs
-
 returns : tie.Need-returns Inv-loop μ-loop
 returns c =
-    let l = c .before .before in
+    let l = c .before in
     let g = l .before .loop .inv in
     record { taken = g .taken; state = l .before .loop .t; run = g .run; over = l .loop-test .left; answer = refl }
 
-pub print-spec : {M : Type 1} → statement M
-print-spec =
+pub send-spec : {M : Type 1} → statement M
+send-spec =
     tie.close
     (tie.spec
     Inv-loop
@@ -57,6 +51,4 @@ print-spec =
     offer-requires
     loop-less
     loop-again
-    slice-aggregate-fail
-    fail-requires
     returns)

@@ -1,0 +1,2 @@
+-- What the contracts of `usage` cite.
+pub mod Said
