@@ -31,6 +31,7 @@ ROOTS = [
     ("What the list program prints", {"printing/src/lib.rt": "print_list"}),
     ("What the other programs print", {"pattern_text/src/lib.rt": "put", "job_words/src/lib.rt": "put", "qasm_file/src/lib.rt": "put_file"}),
     ("`job` of what `show` prints", {"record_text/src/lib.rt": "put", "show/specs/Show.antt": "shown-refused", "show/specs/Back.antt": "shown-back"}),
+    ("Parts of a list", {"segment/src/lib.rt": "print", "part/specs/Joined.antt": "parts-joined parts-output"}),
     ("No word at all is shorter", {"t_count/specs/Calls.antt": "run-fewest run-beyond"}),
 ]
 NAME = r"[^\s(){}\[\],;`\"'.:λ∀→×≡¬]+"
