@@ -27,7 +27,7 @@ C_FIELDS = {"operator": "op"}
 
 def source():
     structs, calls = {}, {}
-    for crate in ("numbers", "call_numbers", "tray_numbers", "bowujita"):
+    for crate in ("library_numbers", "library_calls", "library_trays", "bowujita"):
         for path in sorted((ROOT / "crates" / crate / "src").glob("*.rt")):
             text = re.sub(r"//.*", "", path.read_text())
             for name, body in re.findall(r"#\[repr\(C\)\]\s*pub struct (\w+) \{(.*?)\n\}", text, re.S):

@@ -14,25 +14,25 @@ root = pathlib.Path(__file__).resolve().parent.parent
 # claim, then its theorems (crate/specs file: names) and contracts (crate/src file: functions); GROUPS says from which claim on a group goes
 GROUPS = {"Demand 1": "The three demands", "Ticket 2, the other entry": "Each request", "What the list program prints": "The programs", "No word at all is shorter": "Optimality"}
 ROOTS = [
-    ("Demand 1", {"session/src/lib.rt": "read hand_out rewind has_solution has_image shortest", "stages/src/lib.rt": "start clear"}),
+    ("Demand 1", {"session/src/lib.rt": "read hand_out rewind has_solution has_image shortest", "session_stages/src/lib.rt": "start clear"}),
     ("Demand 2", {"session/specs/RunWalk.antt": "run-finished run-empty"}),
     ("Demand 3", {"session/specs/RunCalls.antt": "run-rules run-first run-rising run-count run-end run-refused run-operators run-others", "session/specs/RunWalk.antt": "run-points"}),
     ("What is remembered, and the image question", {"session/specs/RunImage.antt": "run-remembers run-image"}),
     ("Ticket 2, the other entry", {"entry/src/lib.rt": "hand_out", "entry/specs/Full.antt": "full-means"}),
-    ("Ticket 4, the line problem", {"line/src/lib.rt": "pairs", "rows/specs/Steps.antt": "shift-holds scale-holds"}),
-    ("Ticket 6, gate words", {"lent_words/src/lib.rt": "words", "spelling/specs/Exact.antt": "word-spells", "spelling/specs/Tailed.antt": "normal"}),
-    ("Ticket 7, no shorter pattern", {"shortest/specs/Minimal.antt": "found-pair fewest missing-pair either-byte"}),
-    ("Tickets 8 and 13, rig time", {"tariff/src/lib.rt": "cost tray_cost"}),
-    ("Ticket 9, the sign", {"signs/src/wide.rt": "wide_sign_of"}),
+    ("Ticket 4, the line problem", {"line/src/lib.rt": "pairs", "line_rows/specs/Steps.antt": "shift-holds scale-holds"}),
+    ("Ticket 6, gate words", {"gate_words_lent/src/lib.rt": "words", "gate_theory/specs/Exact.antt": "word-spells", "gate_theory/specs/Tailed.antt": "normal"}),
+    ("Ticket 7, no shorter pattern", {"pattern_shortest/specs/Minimal.antt": "found-pair fewest missing-pair either-byte"}),
+    ("Tickets 8 and 13, rig time", {"gate_tariff/src/lib.rt": "cost tray_cost"}),
+    ("Ticket 9, the sign", {"ring_signs/src/wide.rt": "wide_sign_of"}),
     ("Ticket 10, trays", {"tray/src/lib.rt": "take hand_out rewind clear", "tray/specs/RunCalls.antt": "run-first run-count run-end run-refused run-points run-finished", "tray/specs/Run.antt": "run-rules"}),
-    ("Ticket 11, the tally", {"tallied/specs/Counted.antt": "run-tallied"}),
-    ("Ticket 12, OpenQASM lines", {"qasm_lines/src/lib.rt": "write read", "qasm_lines/specs/Laws.antt": "same-text word-text text-word text-iff"}),
-    ("Ticket 14, pattern sheets", {"sheet/src/lib.rt": "read write", "sheet/specs/Crew.antt": "crew-same crew-blind"}),
-    ("What the list program prints", {"printing/src/lib.rt": "print_list"}),
+    ("Ticket 11, the tally", {"session_tallied/specs/Counted.antt": "run-tallied"}),
+    ("Ticket 12, OpenQASM lines", {"gate_qasm/src/lib.rt": "write read", "gate_qasm/specs/Laws.antt": "same-text word-text text-word text-iff"}),
+    ("Ticket 14, pattern sheets", {"pattern_sheet/src/lib.rt": "read write", "pattern_sheet/specs/Crew.antt": "crew-same crew-blind"}),
+    ("What the list program prints", {"list_printing/src/lib.rt": "print_list"}),
     ("What the other programs print", {"pattern_text/src/lib.rt": "put", "job_words/src/lib.rt": "put", "qasm_file/src/lib.rt": "put_file"}),
     ("`job` of what `show` prints", {"record_text/src/lib.rt": "put", "show/specs/Show.antt": "shown-refused", "show/specs/Back.antt": "shown-back"}),
-    ("Parts of a list", {"segment/src/lib.rt": "print", "part/specs/Joined.antt": "parts-joined parts-output"}),
-    ("No word at all is shorter", {"t_count/specs/Calls.antt": "run-fewest run-beyond"}),
+    ("Parts of a list", {"list_segment/src/lib.rt": "print", "part/specs/Joined.antt": "parts-joined parts-output"}),
+    ("No word at all is shorter", {"pattern_t_count/specs/Calls.antt": "run-fewest run-beyond"}),
 ]
 NAME = r"[^\s(){}\[\],;`\"'.:λ∀→×≡¬]+"
 decls, uses, modules = {}, {}, {}

@@ -240,16 +240,16 @@ words() {
     printed=/dev/null
     for name in word gates; do
         printf 'c%s' "${!name}" >"$scratch/input"
-        run "$list_limit" "$scratch/input" "$bin/word_timing"; ours=$took
+        run "$list_limit" "$scratch/input" "$bin/test_timing"; ours=$took
         run "$list_limit" "$scratch/input" "$scratch/plain"
         printf '%-16s %8s %8s %6s\n' "cost $name" "$ours" "$took" "$(ratio "$ours" "$took")"
     done
     printed=$scratch/printed
     printf 'w%s' "$gates" >"$scratch/input"
-    run "$list_limit" "$scratch/input" "$bin/word_timing"
+    run "$list_limit" "$scratch/input" "$bin/test_timing"
     printf '%-16s %8s %8s\n' write "$took" "$(awk -v t="$took" '{ printf "%.0f", $1 / t / 1e6 }' "$printed")"
     printf 'r%s' "$text" | tr x '\n' >"$scratch/input"
-    run "$list_limit" "$scratch/input" "$bin/word_timing"
+    run "$list_limit" "$scratch/input" "$bin/test_timing"
     printf '%-16s %8s %8s\n' read "$took" "$(awk -v t="$took" '{ printf "%.0f", 8 * $1 / t / 1e6 }' "$printed")"
 }
 

@@ -1,5 +1,5 @@
 #!/usr/bin/env bash
-# stored.sh DIR: what the peer prints for the jobs in DIR (crates/stored), in
+# stored.sh DIR: what the peer prints for the jobs in DIR (crates/test_stored), in
 # the form of DIR/stdout, compared with that file.
 set -u
 [ $# -eq 1 ] || { echo "usage: $0 DIR" >&2; exit 2; }

@@ -4,18 +4,18 @@ use mathlib.Core.Bool.{Bool}
 use mathlib.Core.List.{List}
 use Prim.Native.Nat.{ℕ}
 use lib.IntN.{ℤ}
-use Rattle.candidates.specs.declared.Place as EP
+use Rattle.entry_candidates.specs.declared.Place as EP
 use Rattle.line.specs.declared.Place as LP
 use Rattle.entry.specs.Entry as Entry
 use Rattle.line.specs.Line as Line
 use Rattle.gate_words.specs.declared.Part.{Part}
 use Rattle.gate_words.specs.Words.{Hands}
-use Rattle.numbers.specs.declared.Four.{Four}
-use Rattle.numbers.specs.Numbers.{isSet, pointOf}
-use Rattle.call_numbers.specs.declared.alone.Handed.{Handed}
-use Rattle.call_numbers.specs.declared.alone.Word.{Word}
-use Rattle.call_numbers.specs.declared.alone.Three.{Three}
-pub use Rattle.call_numbers.specs.Alone.{wideOf, entryPlace, linePlace, intervalOf, handedAs}
+use Rattle.library_numbers.specs.declared.Four.{Four}
+use Rattle.library_numbers.specs.Numbers.{isSet, pointOf}
+use Rattle.library_calls.specs.declared.alone.Handed.{Handed}
+use Rattle.library_calls.specs.declared.alone.Word.{Word}
+use Rattle.library_calls.specs.declared.alone.Three.{Three}
+pub use Rattle.library_calls.specs.Alone.{wideOf, entryPlace, linePlace, intervalOf, handedAs}
 
 pub record Entered (k : ℕ) (u : Four) (p : EP.Place) (old new : List ℤ) (r : Handed) : Type 0 where
   pub values : record { count = r .count; end = isSet (r .ended); refusal = r .number } ≡ Entry.valuesAt k (pointOf u) p old

@@ -1,21 +1,21 @@
--- What a call on a session of plain numbers does: one step of the model in `calls`, and a change of the counts.
+-- What a call on a session of plain numbers does: one step of the model in `session_model`, and a change of the counts.
 use mathlib.Core.Path.{_≡_, sym, ap, _∙_}
 use mathlib.Core.List.{List, []}
 use lib.IntN.{ℤ}
-use Rattle.calls.specs.Session.{Call, handOut, imageOf, step, lent}
-use Rattle.calls.specs.Session as Model
+use Rattle.session_model.specs.Session.{Call, handOut, imageOf, step, lent}
+use Rattle.session_model.specs.Session as Model
 use Rattle.ring.specs.declared.Point.{Point}
-use Rattle.stages.specs.declared.Answer.{Answer}
-use Rattle.stages.specs.World.{world}
-use Rattle.stages.specs.Session.{meaning, answerOf, outcome, scaleOf, Steps}
-use Rattle.tally.specs.declared.Tally.{Tally}
-use Rattle.tallying.specs.declared.Tallied.{Tallied}
-use Rattle.tallying.specs.declared.Outcome.{Outcome}
-use Rattle.tallying.specs.Tallied.{tallyAfter, Moves, Deals}
-use Rattle.numbers.specs.declared.State.{State}
-use Rattle.numbers.specs.declared.Reply.{Reply}
-use Rattle.numbers.specs.Numbers.{sessionOf, tallyOf, benchOf, replyOf, reply-any, LeftOf}
-use Rattle.numbers.specs.declared.Left.{Left}
+use Rattle.session_stages.specs.declared.Answer.{Answer}
+use Rattle.session_stages.specs.World.{world}
+use Rattle.session_stages.specs.Session.{meaning, answerOf, outcome, scaleOf, Steps}
+use Rattle.session_tally.specs.declared.Tally.{Tally}
+use Rattle.session_tallying.specs.declared.Tallied.{Tallied}
+use Rattle.session_tallying.specs.declared.Outcome.{Outcome}
+use Rattle.session_tallying.specs.Tallied.{tallyAfter, Moves, Deals}
+use Rattle.library_numbers.specs.declared.State.{State}
+use Rattle.library_numbers.specs.declared.Reply.{Reply}
+use Rattle.library_numbers.specs.Numbers.{sessionOf, tallyOf, benchOf, replyOf, reply-any, LeftOf}
+use Rattle.library_numbers.specs.declared.Left.{Left}
 
 -- what numbers mean in the model
 abbrev pub meant : State → Model.Session world

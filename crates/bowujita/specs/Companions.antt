@@ -3,11 +3,11 @@ use mathlib.Core.Path.{_≡_}
 use mathlib.Core.List.{List}
 use Prim.Native.Nat.{ℕ}
 use lib.ListN.{length}
-use Rattle.qasm_lines.specs.Calls as Qasm
-use Rattle.sheet.specs.Write.{writingOf, sliceAfter}
-use Rattle.call_numbers.specs.declared.companions.Wrote.{Wrote}
-use Rattle.call_numbers.specs.declared.companions.PlainSheet.{PlainSheet}
-pub use Rattle.call_numbers.specs.Companions.{tariffOf, ticksOf, wroteOf, seenOf, sheetOf, putOf}
+use Rattle.gate_qasm.specs.Calls as Qasm
+use Rattle.pattern_sheet.specs.Write.{writingOf, sliceAfter}
+use Rattle.library_calls.specs.declared.companions.Wrote.{Wrote}
+use Rattle.library_calls.specs.declared.companions.PlainSheet.{PlainSheet}
+pub use Rattle.library_calls.specs.Companions.{tariffOf, ticksOf, wroteOf, seenOf, sheetOf, putOf}
 
 -- a word's lines
 pub record Writes (word old new : List ℕ) (r : Wrote) : Type 0 where

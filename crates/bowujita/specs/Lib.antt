@@ -3,4 +3,4 @@ pub mod Calls
 pub mod Alone
 pub mod Operators
 pub mod Companions
-pub mod Run
+pub mod lemmas

@@ -6,8 +6,8 @@ use Rattle.ring.specs.declared.Point.{Point}
 use Rattle.operator.specs.declared.Inverse.{Inverse}
 use Rattle.operator.specs.declared.Inverse.the-variants as I
 use Rattle.operator.specs.Operator.{refusal}
-use Rattle.numbers.specs.declared.Eight.{Eight}
-use Rattle.numbers.specs.Numbers.{eightOf}
+use Rattle.library_numbers.specs.declared.Eight.{Eight}
+use Rattle.library_numbers.specs.Numbers.{eightOf}
 use Rattle.bowujita.specs.declared.operators.WideFour.{WideFour}
 use Rattle.bowujita.specs.declared.operators.Inverted.{Inverted}
 

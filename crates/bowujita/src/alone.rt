@@ -1,16 +1,16 @@
 // Signs, exponents, pulses, words, first columns and line problems: calls without a session.
 ghost use mathlib.Core.Path.{_≡_};
-ghost use Rattle.words.specs.Meaning.{meaning};
+ghost use Rattle.integers_wide.specs.Meaning.{meaning};
 ghost use Rattle.ring.specs.Sign.{signNumber};
 ghost use Rattle.ring.specs.Point.Exponent.{exponentOf, pulseCount};
-ghost use Rattle.numbers.specs.Numbers.{pointOf};
+ghost use Rattle.library_numbers.specs.Numbers.{pointOf};
 ghost use Rattle.bowujita.specs.Alone.{wideOf, entryPlace, linePlace, Entered, Lined, Spelled};
-use call_numbers::alone;
-use call_numbers::alone::Handed;
-use call_numbers::alone::Three;
-use call_numbers::alone::TwoWords;
-use call_numbers::alone::Word;
-use numbers::Four;
+use library_calls::alone;
+use library_calls::alone::Handed;
+use library_calls::alone::Three;
+use library_calls::alone::TwoWords;
+use library_calls::alone::Word;
+use library_numbers::Four;
 use ring::Sign;
 
 // The sign of p + q√2: −1, 0 or 1.
@@ -18,7 +18,7 @@ use ring::Sign;
 pub extern "C" fn bowujita_sign(p: i64, q: i64) -> i32
     ensures { λ r. ⌜ r ≡ signNumber p q ⌝ }
 {
-    let s = signs::sign_of(p, q);
+    let s = ring_signs::sign_of(p, q);
     match s {
         Sign::Minus => -1,
         Sign::Zero => 0,
@@ -31,7 +31,7 @@ pub extern "C" fn bowujita_sign(p: i64, q: i64) -> i32
 pub extern "C" fn bowujita_wide_sign(p: TwoWords, q: TwoWords) -> i32
     ensures { λ r. ⌜ r ≡ signNumber (meaning (wideOf p)) (meaning (wideOf q)) ⌝ }
 {
-    let s = signs::wide_sign_of(alone::wide(p), alone::wide(q));
+    let s = ring_signs::wide_sign_of(alone::wide(p), alone::wide(q));
     match s {
         Sign::Minus => -1,
         Sign::Zero => 0,
@@ -44,7 +44,7 @@ pub extern "C" fn bowujita_wide_sign(p: TwoWords, q: TwoWords) -> i32
 pub extern "C" fn bowujita_exponent(v: Four, k: u8) -> u32
     ensures { λ r. ⌜ r ≡ exponentOf k (pointOf v) ⌝ }
 {
-    let p = numbers::point_of(v);
+    let p = library_numbers::point_of(v);
     p.exponent(k)
 }
 
@@ -67,10 +67,16 @@ pub extern "C" fn bowujita_words(
 ) -> Word
     ensures { λ r. ⌜ Spelled k u t (now (first .entry)) (now (second .entry)) (now (first .exit)) (now (second .exit)) r ⌝ }
 {
-    let p = gate_words::spell_part(k, numbers::point_of(u), numbers::point_of(t), first, second);
+    let p = gate_words::spell_part(
+        k,
+        library_numbers::point_of(u),
+        library_numbers::point_of(t),
+        first,
+        second,
+    );
     Word {
         number: p.number,
-        second: numbers::flag(p.second),
+        second: library_numbers::flag(p.second),
         length: p.len,
     }
 }
@@ -82,7 +88,7 @@ pub extern "C" fn bowujita_entry(k: u8, u: Four, after: u8, place: Four, out: &m
 {
     let a = entry::hand_out(
         k,
-        numbers::point_of(u),
+        library_numbers::point_of(u),
         alone::entry_place(after, place),
         out,
     );

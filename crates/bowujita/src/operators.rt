@@ -2,10 +2,10 @@
 ghost use mathlib.Core.Path.{_≡_};
 ghost use Rattle.operator.specs.Operator.{refusal, refusalOf, imageOf, wide};
 ghost use Rattle.operator.specs.Inverse.{inverseOf};
-ghost use Rattle.numbers.specs.Numbers.{pointOf, operatorOf};
+ghost use Rattle.library_numbers.specs.Numbers.{pointOf, operatorOf};
 ghost use Rattle.bowujita.specs.Operators.{wideFour, refusedWith, invertedOf};
-use numbers::Eight;
-use numbers::Four;
+use library_numbers::Eight;
+use library_numbers::Four;
 use operator::Check;
 use operator::Inverse;
 use operator::WidePoint;
@@ -53,7 +53,7 @@ fn number(c: Check) -> u8
 pub extern "C" fn bowujita_operator_test(g: Eight) -> u8
     ensures { λ r. ⌜ r ≡ refusalOf (operatorOf g) ⌝ }
 {
-    let o = numbers::operator_of(g);
+    let o = library_numbers::operator_of(g);
     number(o.check())
 }
 
@@ -62,8 +62,8 @@ pub extern "C" fn bowujita_operator_test(g: Eight) -> u8
 pub extern "C" fn bowujita_image(g: Eight, v: Four) -> WideFour
     ensures { λ r. ⌜ wideFour r ≡ imageOf (operatorOf g) (pointOf v) ⌝ }
 {
-    let o = numbers::operator_of(g);
-    wide_four(o.image(numbers::point_of(v)))
+    let o = library_numbers::operator_of(g);
+    wide_four(o.image(library_numbers::point_of(v)))
 }
 
 fn wide_four(w: WidePoint) -> WideFour
@@ -82,10 +82,10 @@ fn wide_four(w: WidePoint) -> WideFour
 pub extern "C" fn bowujita_inverse(g: Eight) -> Inverted
     ensures { λ r. ⌜ r ≡ invertedOf (inverseOf (operatorOf g)) ⌝ }
 {
-    let o = numbers::operator_of(g);
+    let o = library_numbers::operator_of(g);
     let h = o.inverse();
     match h {
-        Inverse::Operator(x) => undone(numbers::eight_of(x)),
+        Inverse::Operator(x) => undone(library_numbers::eight_of(x)),
         Inverse::Refused(c) => refused(number(c)),
     }
 }

@@ -1,8 +1,8 @@
 // The calls on a session of trays.
-ghost use Rattle.takes.specs.Session.{taking, rewind, clear};
-ghost use Rattle.tray_numbers.specs.Calls.{Leaves, Fills};
-use tray_numbers::TrayLeft;
-use tray_numbers::TrayState;
+ghost use Rattle.tray_model.specs.Session.{taking, rewind, clear};
+ghost use Rattle.library_trays.specs.Calls.{Leaves, Fills};
+use library_trays::TrayLeft;
+use library_trays::TrayState;
 
 // A take: a scale, a selection's byte, one to eight regions A back to back and region B replace the tray there, or are refused.
 #[no_mangle]
@@ -15,7 +15,7 @@ pub extern "C" fn bowujita_tray_take(
 ) -> TrayLeft
     ensures { λ r. ⌜ Leaves (taking (record { scale = k; byte = byte; a = now (a .entry); b = now (b .entry) })) s r ⌝ }
 {
-    tray_numbers::take(s, k, byte, a, b)
+    library_trays::take(s, k, byte, a, b)
 }
 
 // A hand-out: as many of the next points as the slice has space for, five numbers each.
@@ -23,7 +23,7 @@ pub extern "C" fn bowujita_tray_take(
 pub extern "C" fn bowujita_tray_hand_out(s: TrayState, out: &mut [i32]) -> TrayLeft
     ensures { λ r. ⌜ Fills s (now (out .entry)) (now (out .exit)) r ⌝ }
 {
-    tray_numbers::hand_out(s, out)
+    library_trays::hand_out(s, out)
 }
 
 // Back before the first point.
@@ -31,7 +31,7 @@ pub extern "C" fn bowujita_tray_hand_out(s: TrayState, out: &mut [i32]) -> TrayL
 pub extern "C" fn bowujita_tray_rewind(s: TrayState) -> TrayLeft
     ensures { λ r. ⌜ Leaves rewind s r ⌝ }
 {
-    tray_numbers::rewind(s)
+    library_trays::rewind(s)
 }
 
 // Without a tray again.
@@ -39,5 +39,5 @@ pub extern "C" fn bowujita_tray_rewind(s: TrayState) -> TrayLeft
 pub extern "C" fn bowujita_tray_clear(s: TrayState) -> TrayLeft
     ensures { λ r. ⌜ Leaves clear s r ⌝ }
 {
-    tray_numbers::clear(s)
+    library_trays::clear(s)
 }

@@ -2,11 +2,11 @@
 ghost use mathlib.Core.Path.{_≡_};
 ghost use Prim.Native.Nat.{_≤_};
 ghost use lib.ListN.{length};
-ghost use Rattle.input_lines.specs.Fed.{Fits, Fed};
-use commands::Desk;
-use input_lines::Gathered;
-use input_lines::Said;
+ghost use Rattle.text_input_lines.specs.Fed.{Fits, Fed};
+use console_commands::Desk;
 use libc::STDIN_FILENO;
+use text_input_lines::Gathered;
+use text_input_lines::Said;
 
 // What is kept from one read to the next, and whether to go on.
 struct Talk {
@@ -22,14 +22,14 @@ struct Told {
 }
 
 fn main() {
-    if usage::told(
+    if program_usage::told(
         b"usage: console < LINES\nAn answer for each line: a call of the library by name, its numbers and its bytes.\n",
     ) {
         return;
     }
     let mut line = line_buffer();
     let mut chunk = io::large_buffer();
-    let mut out = commands::room();
+    let mut out = console_commands::room();
     answer_input(&mut line, &mut chunk, &mut out);
 }
 
@@ -43,8 +43,8 @@ fn line_buffer() -> [u8; 131072]
 // Read after read, up to more of them than any machine makes.
 fn answer_input(line: &mut [u8], chunk: &mut [u8], out: &mut [u8]) {
     let mut t = Talk {
-        desk: commands::start(),
-        gathered: input_lines::empty(),
+        desk: console_commands::start(),
+        gathered: text_input_lines::empty(),
         going: true,
     };
     let mut reads: u64 = 18446744073709551615;
@@ -59,7 +59,7 @@ fn answer_input(line: &mut [u8], chunk: &mut [u8], out: &mut [u8]) {
 
 // One read, and the answers to the lines that it completes. A failed read is no end: what is gathered of a line is then not answered.
 fn turn(t: Talk, line: &mut [u8], chunk: &mut [u8], out: &mut [u8]) -> Talk {
-    let got = streams::read_some(STDIN_FILENO, b"standard input", chunk);
+    let got = system_streams::read_some(STDIN_FILENO, b"standard input", chunk);
     let n = got.at;
     if 0 < n {
         return answer_all(t, line, &chunk[..n], out);
@@ -83,12 +83,12 @@ fn stopped(t: Talk) -> Talk {
 // Where the input ends: the last line needs no line feed.
 fn answer_last(t: Talk, line: &[u8], out: &mut [u8]) -> Talk {
     let g = t.gathered;
-    let said = input_lines::last(g, line.len());
+    let said = text_input_lines::last(g, line.len());
     let a = answer(t.desk, said, line, out);
     let desk = a.desk;
     Talk {
         desk,
-        gathered: input_lines::empty(),
+        gathered: text_input_lines::empty(),
         going: false,
     }
 }
@@ -101,11 +101,11 @@ fn answer_all(t: Talk, line: &mut [u8], chunk: &[u8], out: &mut [u8]) -> Talk
     let mut gathered = t.gathered;
     let mut i = 0;
     while i < chunk.len() {
-        let s = input_lines::take(gathered, line, chunk[i]);
+        let s = text_input_lines::take(gathered, line, chunk[i]);
         gathered = s.next;
         let said = s.said;
         i += 1;
-        if input_lines::is_said(said) {
+        if text_input_lines::is_said(said) {
             let a = answer(desk, said, line, out);
             desk = a.desk;
             if !a.going {
@@ -131,7 +131,7 @@ fn answer(d: Desk, said: Said, line: &[u8], out: &mut [u8]) -> Told
         Said::Line(n) => answer_line(d, &line[..n], out),
         Said::TooLong => Told {
             desk: d,
-            going: streams::print(b"too long\n"),
+            going: system_streams::print(b"too long\n"),
         },
         Said::Nothing => Told {
             desk: d,
@@ -141,11 +141,11 @@ fn answer(d: Desk, said: Said, line: &[u8], out: &mut [u8]) -> Told
 }
 
 fn answer_line(d: Desk, line: &[u8], out: &mut [u8]) -> Told {
-    let a = commands::answer(d, line, out);
+    let a = console_commands::answer(d, line, out);
     let n = a.length;
     let desk = a.desk;
     Told {
         desk,
-        going: streams::print(&out[..n]),
+        going: system_streams::print(&out[..n]),
     }
 }

@@ -2,13 +2,13 @@
 use libc::STDIN_FILENO;
 
 fn main() {
-    if usage::told(b"usage: count < JOB\nThe number of points of a job.\n") {
+    if program_usage::told(b"usage: count < JOB\nThe number of points of a job.\n") {
         return;
     }
-    let mut input = printing::input_buffer();
-    let got = streams::read(STDIN_FILENO, b"standard input", &mut input);
+    let mut input = list_printing::input_buffer();
+    let got = system_streams::read(STDIN_FILENO, b"standard input", &mut input);
     let n = got.at;
     if !got.failed {
-        printing::print_count(&input[..n]);
+        list_printing::print_count(&input[..n]);
     }
 }

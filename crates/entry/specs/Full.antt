@@ -10,16 +10,16 @@ use Rattle.ring.specs.RootTwo.Power.{√2^}
 use Rattle.ranks.specs.Rank.{top}
 use Rattle.ranks.specs.Members.{Rising, rest-rising}
 use lib.IntN.{pos}
-use Rattle.points.specs.Digits.{span}
-use Rattle.points.specs.Points.{Fits32, pointOf, rankOf, PointBefore, point-order}
-use Rattle.points.specs.Listed.{Listed, passing-holds, all-hold, all-unique, all-empty}
-use Rattle.equation.specs.Equation.{completes, topScale}
-use Rattle.equation.specs.Tests.{is-false}
-use Rattle.equation.specs.Size.{Within, half, within-bound, solution-within, given-within}
-use Rattle.equation.specs.Meaning.{twice|_|², unit-length}
-pub use Rattle.candidates.specs.Want.{within-fits}
-use Rattle.candidates.specs.declared.Place.{Place}
-use Rattle.candidates.specs.declared.Place.the-variants as P
+use Rattle.ring_points.specs.Digits.{span}
+use Rattle.ring_points.specs.Points.{Fits32, pointOf, rankOf, PointBefore, point-order}
+use Rattle.ring_points.specs.Listed.{Listed, passing-holds, all-hold, all-unique, all-empty}
+use Rattle.entry_equation.specs.Equation.{completes, topScale}
+use Rattle.entry_equation.specs.lemmas.Tests.{is-false}
+use Rattle.entry_equation.specs.Size.{Within, half, within-bound, solution-within, given-within}
+use Rattle.entry_equation.specs.Meaning.{twice|_|², unit-length}
+pub use Rattle.entry_candidates.specs.Want.{within-fits}
+use Rattle.entry_candidates.specs.declared.Place.{Place}
+use Rattle.entry_candidates.specs.declared.Place.the-variants as P
 use Rattle.entry.specs.Entry.{full, left, startOf}
 
 module _ (k : ℕ) (ok : k ≤ topScale) (v : Point) where

@@ -1,3 +1,3 @@
 -- What the call of the words hands back and writes (`Words`), and what its proof cites (`Laws`).
 pub mod Words
-pub mod Laws
+pub mod lemmas

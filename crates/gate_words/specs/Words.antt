@@ -7,11 +7,11 @@ use lib.Dec.{leb, ltb}
 use lib.ListN.{length, drop}
 use Rattle.refusals.specs.Refusals.{outOfRange, notUnitary, noRoom}
 use Rattle.ring.specs.declared.Point.{Point}
-use Rattle.equation.specs.Equation.{completes}
-use Rattle.ranges.specs.Ranges.{topScale}
-use Rattle.spelling.specs.Points.{turn}
-use Rattle.spelling.specs.Table.{Letter}
-use Rattle.spelling.specs.Word.{word, Ts}
+use Rattle.entry_equation.specs.Equation.{completes}
+use Rattle.record_ranges.specs.Ranges.{topScale}
+use Rattle.gate_theory.specs.Points.{turn}
+use Rattle.gate_theory.specs.Table.{Letter}
+use Rattle.gate_theory.specs.Word.{word, Ts}
 use Rattle.gates.specs.Written.{Word, written, bytes, tally}
 use Rattle.gate_words.specs.declared.Refusal.{Refusal}
 use Rattle.gate_words.specs.declared.Refusal.the-variants.{OutOfRange, NotUnitary, NoRoom}
@@ -53,7 +53,7 @@ named v w (First n) = v
 named v w (Second n) = w
 named v w (Refused why) = []
 
--- ---- the two words: U has the rows (u, −t†) and (t, u†) over √2^k, and TUT† has ω t for t (`conjugated` of `spelling`)
+-- ---- the two words: U has the rows (u, −t†) and (t, u†) over √2^k, and TUT† has ω t for t (`conjugated` of `gate_theory`)
 module _ (k : ℕ) (u t : Point) where
   abbrev pub wordU : List Letter
   wordU = word k u t

@@ -97,8 +97,8 @@ fn decide(fits: bool, v: Word, w: Word) -> Answer
 pub fn spell(k: u8, u: Point, t: Point, first: &mut [u8], second: &mut [u8]) -> Answer
     ensures { λ r. ⌜ Spells k u t (now (first .entry)) (now (second .entry)) (now (first .exit)) (now (second .exit)) r ⌝ }
 {
-    let scale = ranges::scale(k);
-    let solves = equation::completes(k, u, t);
+    let scale = record_ranges::scale(k);
+    let solves = entry_equation::completes(k, u, t);
     if !scale {
         return Answer::Refused(Refusal::OutOfRange);
     }

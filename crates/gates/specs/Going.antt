@@ -6,17 +6,17 @@ use Prim.Native.Nat.{ℕ, zero, suc, _+_, _-_, _*_, _%_, _^_, _≤_, _<_}
 use native.Mathlib.Omega.{arith}
 use lib.ListN.{length}
 use borrow.Author.Tests.{eq-eqb, ne-eqb}
-use Rattle.ranges.specs.Ranges.{topScale}
-use Rattle.spelling.specs.declared.State.{State}
-use Rattle.spelling.specs.Bits.{odd, none}
-use Rattle.spelling.specs.Parities.{parities}
-use Rattle.spelling.specs.State.{isPlain, isBare, plus, next, Stage, last, odds, sides, Ready, Narrow}
-use Rattle.spelling.specs.Step.{step, next-even, next-not}
-use Rattle.spelling.specs.Table.{tail}
-use Rattle.spelling.specs.Word.{syllable, syllables, bareAtZero, body}
-use Rattle.spelling.specs.Length.{narrow}
+use Rattle.record_ranges.specs.Ranges.{topScale}
+use Rattle.gate_theory.specs.declared.State.{State}
+use Rattle.gate_theory.specs.Bits.{odd, none}
+use Rattle.gate_theory.specs.Parities.{parities}
+use Rattle.gate_theory.specs.State.{isPlain, isBare, plus, next, Stage, last, odds, sides, Ready, Narrow}
+use Rattle.gate_theory.specs.lemmas.Step.{step, next-even, next-not}
+use Rattle.gate_theory.specs.Table.{tail}
+use Rattle.gate_theory.specs.Word.{syllable, syllables, bareAtZero, body}
+use Rattle.gate_theory.specs.lemmas.Length.{narrow}
 use Rattle.gates.specs.Written.{Word}
-use Rattle.gates.specs.Fit.{shift-small}
+use Rattle.gates.specs.lemmas.Fit.{shift-small}
 
 pub record Going (r : ℕ) (s : State) (w : Word) : Type 0 where
   pub ready : Ready r s

@@ -5,16 +5,16 @@ use mathlib.Core.List.{List, [], _∷_, _++_, append-assoc}
 use Prim.Native.Nat.{ℕ, _+_, _-_, _≤_, _<_}
 use native.Mathlib.Omega.{arith}
 use lib.ListN.{length, length-append}
-use Rattle.ranges.specs.Ranges.{topScale}
+use Rattle.record_ranges.specs.Ranges.{topScale}
 use Rattle.ring.specs.declared.Point.{Point}
 use Rattle.ring.specs.Point.Exponent.{exponentOf}
-use Rattle.spelling.specs.declared.State.{State}
-use Rattle.spelling.specs.State.{Equation, isBare, next, Ready}
-use Rattle.spelling.specs.Table.{Letter, T, tail}
-use Rattle.spelling.specs.Word.{syllable, syllables, without-T, front, bareAtZero, spelled, reduced, body, word}
-use Rattle.spelling.specs.Least.{Least, reduced-least}
-use Rattle.spelling.specs.Number.{starts, starts-T}
-use Rattle.spelling.specs.Length.{stage-small, reduced-k, word-length}
+use Rattle.gate_theory.specs.declared.State.{State}
+use Rattle.gate_theory.specs.State.{Equation, isBare, next, Ready}
+use Rattle.gate_theory.specs.Table.{Letter, T, tail}
+use Rattle.gate_theory.specs.Word.{syllable, syllables, without-T, front, bareAtZero, spelled, reduced, body, word}
+use Rattle.gate_theory.specs.lemmas.Least.{Least, reduced-least}
+use Rattle.gate_theory.specs.lemmas.Number.{starts, starts-T}
+use Rattle.gate_theory.specs.lemmas.Length.{stage-small, reduced-k, word-length}
 use Rattle.gates.specs.Written.{Word, written, bytes, bytes-++, Adds, Writes}
 use Rattle.gates.specs.Going.{Going, body-more, body-none, goes}
 

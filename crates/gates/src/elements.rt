@@ -5,8 +5,8 @@ ghost use Prim.Native.Nat.{_^_, _<_};
 ghost use lib.IntN.{natAbs, negℤ, _+ℤ_, _-ℤ_};
 ghost use Rattle.ring.specs.Point.{_+ω_, _-ω_};
 ghost use Rattle.ring.specs.Point.Divide.{halves};
-ghost use Rattle.spelling.specs.Points.{turn, back, halved};
-ghost use Rattle.spelling.specs.State.{Narrow};
+ghost use Rattle.gate_theory.specs.Points.{turn, back, halved};
+ghost use Rattle.gate_theory.specs.State.{Narrow};
 use ring::Point;
 
 fn add(a: i32, b: i32) -> i32

@@ -1,10 +1,10 @@
 // A word in an array: its syllables, and how many T it has.
 ghost use mathlib.Core.Path.{_≡_};
 ghost use Prim.Native.Nat.{_+_, _≤_};
-ghost use Rattle.spelling.specs.Word.{syllable};
+ghost use Rattle.gate_theory.specs.Word.{syllable};
 ghost use Rattle.gates.specs.Written.{written, one, tally, Adds};
-use clifford::Word;
-use clifford::push;
+use gate_clifford::Word;
+use gate_clifford::push;
 
 // HT, or SHT.
 pub(crate) fn syllable(w: Word, bare: bool) -> Word

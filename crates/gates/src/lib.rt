@@ -5,8 +5,8 @@ mod parity;
 mod spell;
 mod states;
 
-pub use clifford::Word;
-pub use clifford::tail_word;
+pub use gate_clifford::Word;
+pub use gate_clifford::tail_word;
 pub use letters::ts;
 pub use spell::conjugate_word;
 pub use spell::word;

@@ -1,11 +1,11 @@
 // Parities of a point's coordinates, and what they say of the word's front.
 ghost use mathlib.Core.Path.{_≡_};
 ghost use mathlib.Core.Bool.{_&&_};
-ghost use Rattle.spelling.specs.Bits.{xor, sum, odd, rest, full, none, uniform, plain, bare};
-ghost use Rattle.spelling.specs.Odd.{odd?};
-ghost use Rattle.spelling.specs.Parities.{parities};
+ghost use Rattle.gate_theory.specs.Bits.{xor, sum, odd, rest, full, none, uniform, plain, bare};
+ghost use Rattle.gate_theory.specs.Odd.{odd?};
+ghost use Rattle.gate_theory.specs.Parities.{parities};
+use gate_theory::Bits;
 use ring::Point;
-use spelling::Bits;
 
 fn is_odd(a: i32) -> bool
     ensures { λ r. ⌜ r ≡ odd? a ⌝ }

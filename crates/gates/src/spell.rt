@@ -1,10 +1,10 @@
 // The word of a matrix.
 ghost use mathlib.Core.Path.{_≡_};
 ghost use Prim.Native.Nat.{_^_, _<_, _≤_};
-ghost use Rattle.ranges.specs.Ranges.{topScale};
-ghost use Rattle.spelling.specs.Points.{turn};
-ghost use Rattle.spelling.specs.State.{Equation, isBare, Stage};
-ghost use Rattle.spelling.specs.Word.{syllables, without-T, bareAtZero, body, word};
+ghost use Rattle.record_ranges.specs.Ranges.{topScale};
+ghost use Rattle.gate_theory.specs.Points.{turn};
+ghost use Rattle.gate_theory.specs.State.{Equation, isBare, Stage};
+ghost use Rattle.gate_theory.specs.Word.{syllables, without-T, bareAtZero, body, word};
 ghost use Rattle.gates.specs.Written.{Adds, Writes};
 ghost use Rattle.gates.specs.Going.{Going};
 ghost use Rattle.gates.specs.Start.{lead, start};
@@ -17,12 +17,12 @@ use crate::parity::parities;
 use crate::parity::plain;
 use crate::states::next;
 use crate::states::reduce;
-use clifford::Word;
-use clifford::empty;
-use clifford::push;
-use clifford::tail;
+use gate_clifford::Word;
+use gate_clifford::empty;
+use gate_clifford::push;
+use gate_clifford::tail;
+use gate_theory::State;
 use ring::Point;
-use spelling::State;
 
 // No T in front; for a Clifford matrix there is none.
 fn is_plain(s: State) -> bool

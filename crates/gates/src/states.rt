@@ -2,8 +2,8 @@
 ghost use mathlib.Core.Path.{_≡_};
 ghost use mathlib.Core.Bool.{cond};
 ghost use Prim.Native.Nat.{_^_, _<_, _≤_};
-ghost use Rattle.spelling.specs.State.{Narrow, next};
-ghost use Rattle.spelling.specs.Word.{reduced};
+ghost use Rattle.gate_theory.specs.State.{Narrow, next};
+ghost use Rattle.gate_theory.specs.Word.{reduced};
 use crate::elements::half;
 use crate::elements::less;
 use crate::elements::over_omega;
@@ -13,9 +13,9 @@ use crate::elements::unturn;
 use crate::parity::bare;
 use crate::parity::none;
 use crate::parity::parities;
+use gate_theory::State;
 use ring::Point;
 use ring::Quotient;
-use spelling::State;
 
 // How far the phase moves with a syllable.
 fn shift(b: bool) -> u32

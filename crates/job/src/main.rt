@@ -1,12 +1,12 @@
 // The program `job`: a job in words on standard input, its records on standard output. SPEC, "Jobs in words".
 ghost use mathlib.Core.Path.{_≡_};
 ghost use lib.ListN.{length};
-ghost use Rattle.transfer.specs.Sending.{Sent};
-ghost use Rattle.filter.specs.Answered.{Answered};
+ghost use Rattle.system_transfer.specs.Sending.{Sent};
+ghost use Rattle.program_filter.specs.Answered.{Answered};
 ghost use Rattle.job_words.specs.Rows.{jobOf};
 
 fn main() {
-    if usage::told(b"usage: job < WORDS > JOB\nThe records that lines of words say.\n") {
+    if program_usage::told(b"usage: job < WORDS > JOB\nThe records that lines of words say.\n") {
         return;
     }
     let mut input = input_buffer();
@@ -17,7 +17,7 @@ fn main() {
 fn answer(input: &mut [u8]) -> bool
     ensures { λ r. ⌜ Answered jobOf (now (input .exit)) r ⌝ }
 {
-    let got = filter::read(input);
+    let got = program_filter::read(input);
     let n = got.at;
     if got.failed {
         return false;
@@ -30,7 +30,7 @@ fn say(bytes: &[u8]) -> bool
 {
     let mut out = output_buffer();
     let n = job_words::put(&mut out, bytes);
-    filter::print(&out, n)
+    program_filter::print(&out, n)
 }
 
 // One byte more than the words may have.

@@ -13,23 +13,23 @@ use lib.Signed.{mag, ltZ}
 use lib.ListN.{length, getD, take, drop, length-append, length-take, length-drop, drop-of-length-le}
 use lib.Seq.{drop-drop}
 use borrow.Author.Tests.{ltb-true, ltb-false, lt-ltb, le-ltb, ne-eqb}
-use Rattle.kinds.specs.declared.Kind.{Kind}
-use Rattle.kinds.specs.declared.Kind.the-variants as K
-use Rattle.kinds.specs.Kinds.{bodyLength}
-use Rattle.forms.specs.declared.Field.{Field}
-use Rattle.forms.specs.Forms.{fieldsOf, takes, takesAll, recordBytes}
-use Rattle.forms.specs.Back.{size-kind, length-body}
-use Rattle.forms.specs.Laid.{Slate, laid, Laid, laid-append}
+use Rattle.record_kinds.specs.declared.Kind.{Kind}
+use Rattle.record_kinds.specs.declared.Kind.the-variants as K
+use Rattle.record_kinds.specs.Kinds.{bodyLength}
+use Rattle.record_forms.specs.declared.Field.{Field}
+use Rattle.record_forms.specs.Forms.{fieldsOf, takes, takesAll, recordBytes}
+use Rattle.record_forms.specs.Back.{size-kind, length-body}
+use Rattle.record_forms.specs.Laid.{Slate, laid, Laid, laid-append}
 use Rattle.text_scan.specs.Run.{run, runEnd, isByte, spacesFrom, wordEnd, lineEnd}
-use Rattle.wording.specs.declared.Numbers as N
-use Rattle.wording.specs.Names.{placeOf}
-use Rattle.wording.specs.Bytes.{wordFrom, nextFrom}
-use Rattle.wording.specs.Numbers.{Listed, numbers, numbersFrom, listedOf}
-use Rattle.wording.specs.Numbers as W
-use Rattle.input_lines.specs.Lines.{lastLine, linesWith}
+use Rattle.text_words.specs.declared.Numbers as N
+use Rattle.text_words.specs.Names.{placeOf}
+use Rattle.text_words.specs.Bytes.{wordFrom, nextFrom}
+use Rattle.text_words.specs.Numbers.{Listed, numbers, numbersFrom, listedOf}
+use Rattle.text_words.specs.Numbers as W
+use Rattle.text_input_lines.specs.Lines.{lastLine, linesWith}
 use Rattle.list_lines.specs.Lines.{tooLongLine}
-use Rattle.texts.specs.Texts.{numberTexts}
-use Rattle.texts.specs.Puts.{Puts, puts, joined, weaken}
+use Rattle.text_puts.specs.Texts.{numberTexts}
+use Rattle.text_puts.specs.Puts.{Puts, puts, joined, weaken}
 use Rattle.job_words.specs.declared.Row as D
 use Rattle.job_words.specs.Rows.{Row, none, said, bad, meaning, fitted, numbered, diskNumbers, diskOf, choices, choiceOf, lastPlace, selection, names, named, wordsRow, rowOf, rowsOf, isBad, firstBad, rowBytes, bytesOf, singles, jobTexts}
 

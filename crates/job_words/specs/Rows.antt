@@ -5,18 +5,18 @@ use Prim.Native.Nat.{ℕ, suc}
 use lib.Dec.{eqb, ltb}
 use lib.IntN.{ℤ, pos, _*ℤ_}
 use lib.ListN.{length, take}
-use Rattle.kinds.specs.declared.Kind.{Kind}
-use Rattle.kinds.specs.declared.Kind.the-variants as K
-use Rattle.forms.specs.Forms.{fieldsOf, takesAll, recordBytes}
+use Rattle.record_kinds.specs.declared.Kind.{Kind}
+use Rattle.record_kinds.specs.declared.Kind.the-variants as K
+use Rattle.record_forms.specs.Forms.{fieldsOf, takesAll, recordBytes}
 use Rattle.text_scan.specs.Run.{runEnd, isByte, spacesFrom, wordEnd}
-use Rattle.wording.specs.Names.{placeOf}
-use Rattle.wording.specs.Bytes.{wordFrom, nextFrom}
-use Rattle.wording.specs.Numbers.{Listed, numbers, numbersFrom}
-use Rattle.wording.specs.Numbers as W
-use Rattle.input_lines.specs.Lines.{linesOf}
+use Rattle.text_words.specs.Names.{placeOf}
+use Rattle.text_words.specs.Bytes.{wordFrom, nextFrom}
+use Rattle.text_words.specs.Numbers.{Listed, numbers, numbersFrom}
+use Rattle.text_words.specs.Numbers as W
+use Rattle.text_input_lines.specs.Lines.{linesOf}
 use Rattle.list_lines.specs.Lines.{tooLongLine}
-use Rattle.texts.specs.Texts.{numberTexts}
-use Rattle.texts.specs.Puts.{joined}
+use Rattle.text_puts.specs.Texts.{numberTexts}
+use Rattle.text_puts.specs.Puts.{joined}
 use Rattle.job_words.specs.declared.Row as D
 
 -- what a line says: nothing, a record by its kind and its numbers, or that it is none of these

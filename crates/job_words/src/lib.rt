@@ -3,13 +3,13 @@ ghost use mathlib.Core.Path.{_≡_};
 ghost use Prim.Native.Nat.{_≤_};
 ghost use lib.Dec.{ltb};
 ghost use lib.ListN.{length};
-ghost use Rattle.forms.specs.Laid.{Laid};
-ghost use Rattle.texts.specs.Puts.{Puts};
+ghost use Rattle.record_forms.specs.Laid.{Laid};
+ghost use Rattle.text_puts.specs.Puts.{Puts};
 ghost use Rattle.job_words.specs.Rows.{rowOf, rowsOf, isBad, rowBytes, firstBad, bytesOf, jobTexts};
 
 mod reading;
 
-use kinds::Kind;
+use record_kinds::Kind;
 
 // Nothing, where the line is blank; else a record of a kind with the first `count` numbers, where it is good.
 struct Row {
@@ -29,7 +29,7 @@ pub fn put(out: &mut [u8], bytes: &[u8]) -> usize
     }
     let line = bad_line(bytes);
     if line != 0 {
-        return texts::put_number(out, 0, b"bad line", line as u64);
+        return text_puts::put_number(out, 0, b"bad line", line as u64);
     }
     if exceeds(bytes) {
         return list_lines::put_too_long(out, 0);
@@ -104,7 +104,7 @@ fn row_length(line: &[u8]) -> usize
         return 0;
     }
     let kind = r.kind;
-    1 + kinds::body_length(kind)
+    1 + record_kinds::body_length(kind)
 }
 
 // A line's record, where it says one.
@@ -121,5 +121,5 @@ fn put_row(out: &mut [u8], at: usize, line: &[u8]) -> usize
     let numbers = r.numbers;
     let count = r.count;
     let kind = r.kind;
-    forms::put_record(out, at, kind, &numbers[..count])
+    record_forms::put_record(out, at, kind, &numbers[..count])
 }

@@ -4,11 +4,11 @@ ghost use lib.ListN.{length, take};
 ghost use mathlib.Core.Path.{_≡_};
 ghost use mathlib.Core.Bool.{cond};
 ghost use Rattle.text_scan.specs.Run.{spacesFrom};
-ghost use Rattle.wording.specs.Numbers.{numbersFrom};
+ghost use Rattle.text_words.specs.Numbers.{numbersFrom};
 ghost use Rattle.job_words.specs.Rows.{none, bad, fitted as fittedOf, numbered as numberedOf, diskOf, disk as diskRow, selection as selectionOf, diskNumbers, lastPlace, named as namedOf, wordsRow, rowOf};
 ghost use Rattle.job_words.specs.Laws.{Means};
 use crate::Row;
-use kinds::Kind;
+use record_kinds::Kind;
 
 // A comment begins with `#`.
 pub(crate) fn row_of(line: &[u8]) -> Row
@@ -26,7 +26,7 @@ fn words_row(line: &[u8]) -> Row
         return empty(true);
     }
     let end = text_scan::word_end(line, at);
-    let p = wording::place_of(
+    let p = text_words::place_of(
         &line[at..end],
         b"scale rectangle ellipse operator slice selection disk",
     );
@@ -53,7 +53,7 @@ fn named(p: usize, line: &[u8], from: usize) -> Row
 fn numbered(kind: Kind, line: &[u8], from: usize) -> Row
     ensures { λ r. ⌜ Means (numberedOf kind (numbersFrom (now (line .entry)) from)) r ⌝ }
 {
-    let n = wording::numbers_from(line, from);
+    let n = text_words::numbers_from(line, from);
     let numbers = n.values;
     if n.good {
         fitted(kind, numbers, n.count)
@@ -69,7 +69,7 @@ fn fitted(kind: Kind, numbers: [i64; 16], count: usize) -> Row
     if 8 < count {
         return empty(false);
     }
-    let good = forms::takes_all(kind, &numbers[..count]);
+    let good = record_forms::takes_all(kind, &numbers[..count]);
     Row {
         kind,
         numbers,
@@ -102,14 +102,14 @@ fn last_place(line: &[u8], at: usize) -> usize
     if text_scan::spaces_from(line, end) < line.len() {
         return 2;
     }
-    wording::place_of(&line[at..end], b"new all")
+    text_words::place_of(&line[at..end], b"new all")
 }
 
 // The disk of radius 1 over N.
 fn disk(line: &[u8], from: usize) -> Row
     ensures { λ r. ⌜ Means (diskRow (numbersFrom (now (line .entry)) from)) r ⌝ }
 {
-    let n = wording::numbers_from(line, from);
+    let n = text_words::numbers_from(line, from);
     let numbers = n.values;
     if n.good {
         disk_of(numbers, n.count)

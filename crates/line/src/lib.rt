@@ -11,12 +11,12 @@ ghost use Rattle.line.specs.Given.{Given};
 
 mod search;
 
-use thin::Digits;
-pub use thin::Interval;
-use thin::Spot;
+use line_steps::Digits;
+pub use line_steps::Interval;
+use line_steps::Spot;
 
 // Coordinates of a pair, and ends of an interval, lie within ±10,000.
-const HIGHEST: i32 = thin::BOUND as i32;
+const HIGHEST: i32 = line_steps::BOUND as i32;
 
 pub(crate) const LOWEST: i32 = -HIGHEST;
 
@@ -71,14 +71,14 @@ fn hand_out(first: Interval, second: Interval, p: Digits, out: &mut [i32]) -> An
 {
     let n = out.len() / 2;
     let mut k = 0;
-    let c = thin::reduced(first, second);
-    let mut f = thin::onward(c, p);
+    let c = line_steps::reduced(first, second);
+    let mut f = line_steps::onward(c, p);
     while k < n {
         match f {
             Spot::At(q) => {
                 put(out, 2 * k, q);
                 k += 1;
-                f = thin::next(c, Digits { a: q.a, b: q.b + 1 });
+                f = line_steps::next(c, Digits { a: q.a, b: q.b + 1 });
             }
             Spot::Ended => {
                 break;

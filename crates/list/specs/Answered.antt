@@ -4,11 +4,11 @@ use mathlib.Core.Bool.{Bool, true, false}
 use mathlib.Core.List.{List}
 use Prim.Native.Nat.{ℕ}
 use lib.ListN.{take}
-use Rattle.transfer.specs.declared.Transfer.{Transfer}
-use Rattle.transfer.specs.Receiving.{Received, received-bytes}
-use Rattle.output.specs.Output.{outputOf}
-use Rattle.printing.specs.Printed.{Listed}
-use Rattle.printing.specs.Whole.{listed-all}
+use Rattle.system_transfer.specs.declared.Transfer.{Transfer}
+use Rattle.system_transfer.specs.Receiving.{Received, received-bytes}
+use Rattle.list_output.specs.Output.{outputOf}
+use Rattle.list_printing.specs.Printed.{Listed}
+use Rattle.list_printing.specs.lemmas.Whole.{listed-all}
 
 pub record Answered (buf : List ℕ) (r : Bool) : Type 0 where
   pub got : Transfer

@@ -3,10 +3,12 @@ ghost use Rattle.list.specs.Answered.{Answered};
 use libc::STDIN_FILENO;
 
 fn main() {
-    if usage::told(b"usage: list < JOB\nThe points of a job, one a line, and their number.\n") {
+    if program_usage::told(
+        b"usage: list < JOB\nThe points of a job, one a line, and their number.\n",
+    ) {
         return;
     }
-    let mut input = printing::input_buffer();
+    let mut input = list_printing::input_buffer();
     answer(&mut input);
 }
 
@@ -14,10 +16,10 @@ fn main() {
 fn answer(input: &mut [u8]) -> bool
     ensures { λ r. ⌜ Answered (now (input .exit)) r ⌝ }
 {
-    let got = streams::read(STDIN_FILENO, b"standard input", input);
+    let got = system_streams::read(STDIN_FILENO, b"standard input", input);
     let n = got.at;
     if got.failed {
         return false;
     }
-    printing::print_list(&input[..n])
+    list_printing::print_list(&input[..n])
 }

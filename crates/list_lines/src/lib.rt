@@ -6,13 +6,13 @@ ghost use lib.ListN.{length, take};
 ghost use Rattle.io.specs.Counts.{Counts};
 ghost use Rattle.text.specs.Append.{Appended};
 ghost use Rattle.text.specs.Decimal.{decimal};
-ghost use Rattle.words.specs.Meaning.{sizeOf};
+ghost use Rattle.integers_wide.specs.Meaning.{sizeOf};
 ghost use Rattle.text.specs.Written.{written, after};
-ghost use Rattle.kinds.specs.Kinds.{number};
+ghost use Rattle.record_kinds.specs.Kinds.{number};
 ghost use Rattle.list_lines.specs.Lines.{coordinateText, headText, countText, pointLine, linesOf, endLine, refusalLine, tooLongLine};
-use kinds::Refusal;
+use integers_wide::Size;
+use record_kinds::Refusal;
 use ring::Point;
-use words::Size;
 
 // The lines of the first n points, and their length. A line has at most 70 bytes: four numbers of at most 11 and two of at most 10, each with a mark after it.
 pub fn put_points(out: &mut [u8], points: &[i32], n: usize, k: u8) -> usize
@@ -30,7 +30,7 @@ pub fn put_points(out: &mut [u8], points: &[i32], n: usize, k: u8) -> usize
     let mut at = 0;
     let mut i = 0;
     while i < n {
-        let v = points::point_at(points, i);
+        let v = ring_points::point_at(points, i);
         if begins_row(last, v) {
             length = put_head(&mut head, v);
         }

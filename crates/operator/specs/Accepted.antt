@@ -11,8 +11,8 @@ use mir.Syntax.{Width}
 use mir.Val.{SFits, toZ, ofZ}
 use mir.Facts.{toZ-ofZ}
 use borrow.Author.Tests.{leb-true, le-leb, eq-eqb, ne-eqb}
-use Rattle.integers.specs.Booleans.{both-true}
-use Rattle.integers.specs.Order.{≼-antisym}
+use Rattle.integers.specs.lemmas.Booleans.{both-true}
+use Rattle.integers.specs.lemmas.Order.{≼-antisym}
 use Rattle.operator.specs.declared.Operator.{Operator}
 use Rattle.operator.specs.declared.Check.the-variants.{Special, OutOfRange, OddParity, NotSpecial}
 use Rattle.operator.specs.Operator.{within, allWithin, inRange, evenParity, detWhole, detRoot, equalZ, special, checkOf}

@@ -7,10 +7,10 @@ use mir.Syntax.{w16, w64}
 use mir.Val.{SFits, toZ, ofZ}
 use mir.Facts.{toZ-ofZ}
 use Rattle.integers.specs.Parity.{half}
-use Rattle.integers.specs.Size.{size-neg, size-+, size--, fits→size, size-*≤, size→fits}
+use Rattle.integers.specs.lemmas.Size.{size-neg, size-+, size--, fits→size, size-*≤, size→fits}
 use Rattle.operator.specs.declared.Operator.{Operator}
 use Rattle.operator.specs.declared.WidePoint.{WidePoint}
-use Rattle.operator.specs.Halves.{half-size}
+use Rattle.operator.specs.lemmas.Halves.{half-size}
 
 abbrev pub Bounded : ℕ → ℤ → Type 0
 Bounded k z = natAbs z ≤ 2 ^ k

@@ -2,11 +2,7 @@
 -- are steps on the way.
 pub mod Operator
 pub mod Inverse
-pub mod Image
-pub mod Undoes
 pub mod Accepted
-pub mod Adjugate
-pub mod Even
-pub mod Halves
 pub mod Bounded
 pub mod Narrow
+pub mod lemmas

@@ -114,8 +114,8 @@ impl Operator {
     fn in_range(self) -> bool
         ensures { λ r. ⌜ r ≡ inRange self ⌝ }
     {
-        ranges::entries(self.a, self.b, self.c, self.d)
-            & ranges::entries(self.ai, self.bi, self.ci, self.di)
+        record_ranges::entries(self.a, self.b, self.c, self.d)
+            & record_ranges::entries(self.ai, self.bi, self.ci, self.di)
     }
 
     fn is_even(self) -> bool

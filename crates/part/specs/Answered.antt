@@ -5,23 +5,23 @@ use mathlib.Core.List.{List, [], _∷_}
 use Prim.Native.Nat.{ℕ}
 use lib.IntN.{ℤ}
 use lib.ListN.{take}
-use Rattle.transfer.specs.declared.Transfer.{Transfer}
-use Rattle.transfer.specs.Receiving.{Received, received-bytes}
-use Rattle.transfer.specs.Sending.{Sent}
+use Rattle.system_transfer.specs.declared.Transfer.{Transfer}
+use Rattle.system_transfer.specs.Receiving.{Received, received-bytes}
+use Rattle.system_transfer.specs.Sending.{Sent}
 use Rattle.ranks.specs.Rest.{isNil}
-use Rattle.lists.specs.Walk.{full}
-use Rattle.calls.specs.Session as Model
-use Rattle.calls.specs.Since.{fullOf}
-use Rattle.stages.specs.declared.Session.{Session}
-use Rattle.stages.specs.declared.Course.{Course}
-use Rattle.stages.specs.declared.Stage.the-variants as S
-use Rattle.stages.specs.World.{world}
-use Rattle.stages.specs.Session.{meaning, scaleOf}
-use Rattle.input.specs.Load.{Loaded, ready, refused, tooLong, loadOf}
-use Rattle.output.specs.Pieces.{long, refusal, pieceOf}
-use Rattle.segment.specs.Part.{partLines}
-use Rattle.segment.specs.Joined.{lines-nil}
-use Rattle.segment.specs.Printed.{Printed, printed-all, printed-one, printed-none}
+use Rattle.walk_list.specs.Walk.{full}
+use Rattle.session_model.specs.Session as Model
+use Rattle.session_model.specs.Since.{fullOf}
+use Rattle.session_stages.specs.declared.Session.{Session}
+use Rattle.session_stages.specs.declared.Course.{Course}
+use Rattle.session_stages.specs.declared.Stage.the-variants as S
+use Rattle.session_stages.specs.World.{world}
+use Rattle.session_stages.specs.Session.{meaning, scaleOf}
+use Rattle.list_input.specs.Load.{Loaded, ready, refused, tooLong, loadOf}
+use Rattle.list_output.specs.Pieces.{long, refusal, pieceOf}
+use Rattle.list_segment.specs.Part.{partLines}
+use Rattle.list_segment.specs.Joined.{lines-nil}
+use Rattle.list_segment.specs.Printed.{Printed, printed-all, printed-one, printed-none}
 use Rattle.part.specs.Part.{partFor, partOf}
 
 pub record Answered (lo hi : ℤ) (buf : List ℕ) (r : Bool) : Type 0 where

@@ -5,17 +5,17 @@ use Prim.Native.Nat.{ℕ, _^_}
 use lib.IntN.{ℤ, pos, negℤ}
 use lib.ListN.{length}
 use Rattle.integers.specs.Difference.{_≼_}
-use Rattle.lists.specs.Walk.{full}
-use Rattle.calls.specs.Session.{early, walking}
-use Rattle.calls.specs.Session as Model
-use Rattle.calls.specs.Since.{fullOf}
-use Rattle.stages.specs.World.{world}
-use Rattle.stages.specs.Session.{scaleOf}
-use Rattle.input.specs.Load.{ready, loadOf}
+use Rattle.walk_list.specs.Walk.{full}
+use Rattle.session_model.specs.Session.{early, walking}
+use Rattle.session_model.specs.Session as Model
+use Rattle.session_model.specs.Since.{fullOf}
+use Rattle.session_stages.specs.World.{world}
+use Rattle.session_stages.specs.Session.{scaleOf}
+use Rattle.list_input.specs.Load.{ready, loadOf}
 use Rattle.list_lines.specs.Lines.{endLine}
-use Rattle.output.specs.Output.{outputOf, outputFor, listLines}
-use Rattle.segment.specs.Part.{partLines}
-use Rattle.segment.specs.Joined.{Rises, lastOf, partsOf, parts-whole, parts-none}
+use Rattle.list_output.specs.Output.{outputOf, outputFor, listLines}
+use Rattle.list_segment.specs.Part.{partLines}
+use Rattle.list_segment.specs.Joined.{Rises, lastOf, partsOf, parts-whole, parts-none}
 use Rattle.part.specs.Part.{partOf, partFor}
 
 module _ (c : ℤ) (ds : List ℤ) (low : c ≼ negℤ (pos (2 ^ 31))) (rises : Rises c ds) (high : pos (2 ^ 31) ≼ lastOf c ds) where

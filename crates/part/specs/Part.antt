@@ -2,12 +2,12 @@
 use mathlib.Core.List.{List}
 use Prim.Native.Nat.{ℕ}
 use lib.IntN.{ℤ}
-use Rattle.calls.specs.Since.{fullOf}
-use Rattle.stages.specs.World.{world}
-use Rattle.stages.specs.Session.{scaleOf}
-use Rattle.input.specs.Load.{Loaded, ready, refused, tooLong, loadOf}
+use Rattle.session_model.specs.Since.{fullOf}
+use Rattle.session_stages.specs.World.{world}
+use Rattle.session_stages.specs.Session.{scaleOf}
+use Rattle.list_input.specs.Load.{Loaded, ready, refused, tooLong, loadOf}
 use Rattle.list_lines.specs.Lines.{refusalLine, tooLongLine}
-use Rattle.segment.specs.Part.{partLines}
+use Rattle.list_segment.specs.Part.{partLines}
 
 -- a line for each solution with a from lo to hi; a refusal and a longer input have their line alone, as in the list
 abbrev pub partFor : ℤ → ℤ → Loaded → List ℕ

@@ -1,24 +1,24 @@
 // The part program: SPEC, "List program".
 ghost use mathlib.Core.Path.{_≡_};
 ghost use lib.ListN.{length};
-ghost use Rattle.transfer.specs.Sending.{Sent};
-ghost use Rattle.lists.specs.Walk.{full};
-ghost use Rattle.calls.specs.Since.{fullOf};
-ghost use Rattle.stages.specs.World.{world};
-ghost use Rattle.stages.specs.Session.{meaning, scaleOf};
-ghost use Rattle.output.specs.Pieces.{stateOf, pieceOf};
-ghost use Rattle.segment.specs.Part.{partLines};
-ghost use Rattle.segment.specs.Printed.{Printed};
+ghost use Rattle.system_transfer.specs.Sending.{Sent};
+ghost use Rattle.walk_list.specs.Walk.{full};
+ghost use Rattle.session_model.specs.Since.{fullOf};
+ghost use Rattle.session_stages.specs.World.{world};
+ghost use Rattle.session_stages.specs.Session.{meaning, scaleOf};
+ghost use Rattle.list_output.specs.Pieces.{stateOf, pieceOf};
+ghost use Rattle.list_segment.specs.Part.{partLines};
+ghost use Rattle.list_segment.specs.Printed.{Printed};
 ghost use Rattle.part.specs.Part.{partOf};
 ghost use Rattle.part.specs.Answered.{Answered};
-use input::Input;
 use libc::STDIN_FILENO;
-use numeral::Numeral;
+use list_input::Input;
+use list_output::Output;
 use operator::Operator;
-use output::Output;
 use region::Job;
 use session::Session;
 use session::Stage;
+use text_numeral::Numeral;
 
 // The arguments LO and HI, or others.
 enum Ends {
@@ -30,10 +30,10 @@ fn main() {
     let r = range();
     match r {
         Ends::Given(lo, hi) => {
-            let mut input = printing::input_buffer();
+            let mut input = list_printing::input_buffer();
             answer(&mut input, lo, hi);
         }
-        Ends::Bad => usage::say(
+        Ends::Bad => program_usage::say(
             b"usage: part LO HI < JOB\nThe points of a job with a from LO to HI, one a line.\n",
         ),
     }
@@ -57,14 +57,14 @@ fn range() -> Ends {
 fn argument(i: usize) -> Numeral {
     let mut word = [0u8; 32];
     let n = os::arg(i, &mut word);
-    numeral::read(&word[..n])
+    text_numeral::read(&word[..n])
 }
 
 // Whether the input came without a failure and all of its part was taken. After a read that failed nothing is printed.
 fn answer(input: &mut [u8], lo: i32, hi: i32) -> bool
     ensures { λ r. ⌜ Answered lo hi (now (input .exit)) r ⌝ }
 {
-    let got = streams::read(STDIN_FILENO, b"standard input", input);
+    let got = system_streams::read(STDIN_FILENO, b"standard input", input);
     let n = got.at;
     if got.failed {
         return false;
@@ -75,7 +75,7 @@ fn answer(input: &mut [u8], lo: i32, hi: i32) -> bool
 fn print(bytes: &[u8], lo: i32, hi: i32) -> bool
     ensures { λ r. ⌜ Printed (partOf lo hi (now (bytes .entry))) r ⌝ }
 {
-    let input = input::load(bytes);
+    let input = list_input::load(bytes);
     match input {
         Input::TooLong => line(Output::TooLong),
         Input::Refused(f, at) => line(Output::Refusal(f, at)),
@@ -88,9 +88,9 @@ fn line(o: Output) -> bool
     ensures { λ r. ⌜ Sent (pieceOf 126 (stateOf o) .text) r ⌝ }
 {
     let mut space = line_buffer();
-    let p = output::next(o, &mut space);
+    let p = list_output::next(o, &mut space);
     let n = p.length;
-    streams::print(&space[..n])
+    system_streams::print(&space[..n])
 }
 
 fn line_buffer() -> [u8; 126]
@@ -116,5 +116,5 @@ fn of_job(job: Job, lo: i32, hi: i32) -> bool
     if !question::has_solution(job, Operator::IDENTITY) {
         return true;
     }
-    segment::print(job, lo, hi)
+    list_segment::print(job, lo, hi)
 }

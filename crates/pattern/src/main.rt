@@ -1,15 +1,17 @@
 // The pattern program: a job on standard input, its shortest pattern on standard output. SPEC, "Pattern program".
 ghost use mathlib.Core.Path.{_≡_};
 ghost use lib.ListN.{length};
-ghost use Rattle.transfer.specs.Sending.{Sent};
-ghost use Rattle.filter.specs.Answered.{Answered};
+ghost use Rattle.system_transfer.specs.Sending.{Sent};
+ghost use Rattle.program_filter.specs.Answered.{Answered};
 ghost use Rattle.pattern_text.specs.Pattern.{outputOf};
 
 fn main() {
-    if usage::told(b"usage: pattern < JOB\nThe shortest pattern of a job, one fact a line.\n") {
+    if program_usage::told(
+        b"usage: pattern < JOB\nThe shortest pattern of a job, one fact a line.\n",
+    ) {
         return;
     }
-    let mut input = filter::input_buffer();
+    let mut input = program_filter::input_buffer();
     answer(&mut input);
 }
 
@@ -17,7 +19,7 @@ fn main() {
 fn answer(input: &mut [u8]) -> bool
     ensures { λ r. ⌜ Answered outputOf (now (input .exit)) r ⌝ }
 {
-    let got = filter::read(input);
+    let got = program_filter::read(input);
     let n = got.at;
     if got.failed {
         return false;
@@ -30,7 +32,7 @@ fn say(bytes: &[u8]) -> bool
 {
     let mut out = output_buffer();
     let n = pattern_text::put(&mut out, bytes);
-    filter::print(&out, n)
+    program_filter::print(&out, n)
 }
 
 fn output_buffer() -> [u8; 363]

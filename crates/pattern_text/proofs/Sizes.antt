@@ -8,15 +8,15 @@ use lib.Dec.{leb, lit≤}
 use lib.ListN.{length, length-append}
 use borrow.Author.Tests.{leb-true}
 use Rattle.ring.specs.declared.Point.{Point}
-use Rattle.ranges.specs.Ranges.{topScale}
-use Rattle.equation.specs.Equation.{completes}
-use Rattle.kinds.specs.declared.Refusal.{Refusal}
-use Rattle.kinds.specs.declared.Refusal.the-variants.{NoKind, UnknownKind, Short, OutOfRange, NotPositive, OddParity, NotSpecial, OutOfTurn, NoJob, Ended, NoDirection, NoPattern}
-use Rattle.kinds.specs.Kinds.{number}
+use Rattle.record_ranges.specs.Ranges.{topScale}
+use Rattle.entry_equation.specs.Equation.{completes}
+use Rattle.record_kinds.specs.declared.Refusal.{Refusal}
+use Rattle.record_kinds.specs.declared.Refusal.the-variants.{NoKind, UnknownKind, Short, OutOfRange, NotPositive, OddParity, NotSpecial, OutOfTurn, NoJob, Ended, NoDirection, NoPattern}
+use Rattle.record_kinds.specs.Kinds.{number}
 use Rattle.text.specs.Decimal.{decimal}
 use Rattle.text.proofs.Lengths.{unsigned-length}
 use Rattle.list_lines.specs.Lines.{refusalLine, countText}
-use Rattle.spelling.specs.Table.{Letter}
+use Rattle.gate_theory.specs.Table.{Letter}
 use Rattle.gates.specs.Written.{bytes, length-bytes}
 use Rattle.gate_words.specs.declared.Answer.{Answer}
 use Rattle.gate_words.specs.declared.Answer.the-variants as A

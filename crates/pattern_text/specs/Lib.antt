@@ -1,2 +1,2 @@
 pub mod Pattern
-pub mod Spelled
+pub mod lemmas

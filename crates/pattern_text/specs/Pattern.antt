@@ -9,16 +9,16 @@ use Rattle.ring.specs.declared.Point.{Point}
 use Rattle.ring.specs.Point.Exponent.{exponentOf, pulseCount}
 use Rattle.text.specs.Decimal.{signedDecimal}
 use Rattle.list_lines.specs.Lines.{refusalLine, tooLongLine}
-use Rattle.calls.specs.Session.{taken, handed, done, says, best, shortest, step}
-use Rattle.calls.specs.Session as Model
-use Rattle.stages.specs.declared.Session.{Session}
-use Rattle.stages.specs.declared.Answer.{Answer}
-use Rattle.stages.specs.World.{world}
-use Rattle.stages.specs.Session.{meaning, answerOf, Steps}
-use Rattle.input.specs.declared.Input.{Input}
-use Rattle.input.specs.Load.{Loaded, ready, refused, tooLong, loadedOf, loadOf}
-use Rattle.texts.specs.Puts.{Puts, joined, puts-joined}
-use Rattle.texts.specs.Texts.{numberTexts, shown}
+use Rattle.session_model.specs.Session.{taken, handed, done, says, best, shortest, step}
+use Rattle.session_model.specs.Session as Model
+use Rattle.session_stages.specs.declared.Session.{Session}
+use Rattle.session_stages.specs.declared.Answer.{Answer}
+use Rattle.session_stages.specs.World.{world}
+use Rattle.session_stages.specs.Session.{meaning, answerOf, Steps}
+use Rattle.list_input.specs.declared.Input.{Input}
+use Rattle.list_input.specs.Load.{Loaded, ready, refused, tooLong, loadedOf, loadOf}
+use Rattle.text_puts.specs.Puts.{Puts, joined, puts-joined}
+use Rattle.text_puts.specs.Texts.{numberTexts, shown}
 use Rattle.gates.specs.Written.{bytes}
 use Rattle.gate_words.specs.Words as W
 use Rattle.gate_words.specs.Words.{wordU, wordTUT, isSecond, named}

@@ -3,12 +3,12 @@ ghost use mathlib.Core.Path.{_≡_};
 ghost use Prim.Native.Nat.{_+_};
 ghost use mathlib.Core.List.{[], _∷_};
 ghost use lib.ListN.{length};
-ghost use Rattle.stages.specs.Session.{meaning};
-ghost use Rattle.input.specs.Load.{loadOf};
-ghost use Rattle.texts.specs.Puts.{Puts};
+ghost use Rattle.session_stages.specs.Session.{meaning};
+ghost use Rattle.list_input.specs.Load.{loadOf};
+ghost use Rattle.text_puts.specs.Puts.{Puts};
 ghost use Rattle.pattern_text.specs.Pattern.{coordinateTexts, pointTexts, nameText, wordTexts, patternTexts, shortestTexts, textsFor};
 use gate_words::Part;
-use input::Input;
+use list_input::Input;
 use ring::Point;
 use session::Answer;
 use session::Session;
@@ -17,7 +17,7 @@ use session::Session;
 pub fn put(out: &mut [u8], bytes: &[u8]) -> usize
     ensures { λ r. ⌜ Puts (now (out .entry), 0) (textsFor (length (now (bytes .entry))) (loadOf (now (bytes .entry)))) (now (out .exit), r) 363 ⌝ }
 {
-    let i = input::load(bytes);
+    let i = list_input::load(bytes);
     match i {
         Input::TooLong => list_lines::put_too_long(out, 0),
         Input::Refused(f, at) => list_lines::put_refusal(out, 0, f, at),
@@ -44,10 +44,10 @@ fn put_pattern(out: &mut [u8], k: u8, u: Point, t: Point) -> usize
     ensures { λ r. ⌜ Puts (now (out .entry), 0) (patternTexts k u t) (now (out .exit), r) 363 ⌝ }
 {
     let m = ring::pulse_count(u.exponent(k));
-    let a = texts::put_number(out, 0, b"scale", k as u64);
+    let a = text_puts::put_number(out, 0, b"scale", k as u64);
     let b = put_point(out, a, b"u", u);
     let c = put_point(out, b, b"t", t);
-    let d = texts::put_number(out, c, b"m", m);
+    let d = text_puts::put_number(out, c, b"m", m);
     put_word(out, d, k, u, t)
 }
 
@@ -79,7 +79,7 @@ fn put_word(out: &mut [u8], at: usize, k: u8, u: Point, t: Point) -> usize
     let p = gate_words::spell_part(k, u, t, &mut first, &mut second);
     let a = put_name(out, at, p);
     let b = text::put_bytes(out, a, b"word ");
-    let c = texts::put_word(out, b, gate_words::chosen(p, &first, &second));
+    let c = text_puts::put_word(out, b, gate_words::chosen(p, &first, &second));
     text::put_byte(out, c, b'\n')
 }
 

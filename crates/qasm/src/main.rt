@@ -1,17 +1,17 @@
 // The program `qasm`: a word on standard input, its file of OpenQASM 2.0 on standard output. SPEC, "OpenQASM programs".
 ghost use mathlib.Core.Path.{_≡_};
 ghost use lib.ListN.{length};
-ghost use Rattle.transfer.specs.Sending.{Sent};
-ghost use Rattle.filter.specs.Answered.{Answered};
+ghost use Rattle.system_transfer.specs.Sending.{Sent};
+ghost use Rattle.program_filter.specs.Answered.{Answered};
 ghost use Rattle.qasm_file.specs.File.{fileOf};
 
 fn main() {
-    if usage::told(
+    if program_usage::told(
         b"usage: qasm < WORD > FILE\nA word, or what pattern printed, as a file of OpenQASM 2.0.\n",
     ) {
         return;
     }
-    let mut input = filter::input_buffer();
+    let mut input = program_filter::input_buffer();
     answer(&mut input);
 }
 
@@ -19,7 +19,7 @@ fn main() {
 fn answer(input: &mut [u8]) -> bool
     ensures { λ r. ⌜ Answered fileOf (now (input .exit)) r ⌝ }
 {
-    let got = filter::read(input);
+    let got = program_filter::read(input);
     let n = got.at;
     if got.failed {
         return false;
@@ -32,7 +32,7 @@ fn say(bytes: &[u8]) -> bool
 {
     let mut out = output_buffer();
     let n = qasm_file::put_file(&mut out, bytes);
-    filter::print(&out, n)
+    program_filter::print(&out, n)
 }
 
 fn output_buffer() -> [u8; 524335]

@@ -6,10 +6,10 @@ use lib.Dec.{eqb, ltb}
 use lib.ListN.{length, getD, take, drop}
 use Rattle.refusals.specs.Refusals.{notALetter, notALine}
 use Rattle.list_lines.specs.Lines.{tooLongLine}
-use Rattle.texts.specs.Texts.{refusalTexts, shown}
-use Rattle.texts.specs.Puts.{joined}
-use Rattle.alphabet.specs.Letters.{bytes, lettersOf, areLetters}
-use Rattle.qasm_lines.specs.Text.{textOf, isText, wordOf, same}
+use Rattle.text_puts.specs.Texts.{refusalTexts, shown}
+use Rattle.text_puts.specs.Puts.{joined}
+use Rattle.gate_alphabet.specs.Letters.{bytes, lettersOf, areLetters}
+use Rattle.gate_qasm.specs.Text.{textOf, isText, wordOf, same}
 
 -- `OPENQASM 2.0;`, `include "qelib1.inc";` and `qreg q[1];`, a line each
 abbrev pub header : List ℕ

@@ -4,10 +4,10 @@ ghost use Prim.Native.Nat.{_≤_};
 ghost use mathlib.Core.Bool.{true};
 ghost use mathlib.Core.List.{[], _∷_};
 ghost use lib.ListN.{length};
-ghost use Rattle.texts.specs.Puts.{Puts};
-ghost use Rattle.texts.specs.Texts.{shown};
+ghost use Rattle.text_puts.specs.Puts.{Puts};
+ghost use Rattle.text_puts.specs.Texts.{shown};
 ghost use Rattle.qasm_file.specs.File.{beginsFile, lineTexts, backTexts};
-use qasm_lines::Answer;
+use gate_qasm::Answer;
 
 // What `unqasm` prints for an input.
 pub fn put_back(out: &mut [u8], bytes: &[u8]) -> usize
@@ -17,7 +17,7 @@ pub fn put_back(out: &mut [u8], bytes: &[u8]) -> usize
         return list_lines::put_too_long(out, 0);
     }
     if !begins(bytes) {
-        return texts::put_refusal(out, 0, refusals::NOT_A_LINE, 0);
+        return text_puts::put_refusal(out, 0, refusals::NOT_A_LINE, 0);
     }
     put_lines_word(out, &bytes[47..])
 }
@@ -41,10 +41,10 @@ fn put_lines_word(out: &mut [u8], lines: &[u8]) -> usize
     ensures { λ r. ⌜ Puts (now (out .entry), 0) (lineTexts (now (lines .entry))) (now (out .exit), r) 65537 ⌝ }
 {
     let mut word = word_buffer();
-    let a = qasm_lines::read(lines, &mut word);
+    let a = gate_qasm::read(lines, &mut word);
     match a {
         Answer::Wrote(n) => put_word(out, &word[..n]),
-        Answer::Refused(f) => texts::put_refusal(out, 0, f.number(), 47),
+        Answer::Refused(f) => text_puts::put_refusal(out, 0, f.number(), 47),
     }
 }
 
@@ -52,7 +52,7 @@ fn put_word(out: &mut [u8], word: &[u8]) -> usize
     requires { ⌜ length (now word) ≤ 65536 ⌝ }
     ensures { λ r. ⌜ Puts (now (out .entry), 0) (shown (now (word .entry)) ∷ (10 ∷ []) ∷ []) (now (out .exit), r) 65537 ⌝ }
 {
-    let at = texts::put_word(out, 0, word);
+    let at = text_puts::put_word(out, 0, word);
     text::put_byte(out, at, b'\n')
 }
 

@@ -6,10 +6,10 @@ ghost use mathlib.Core.Path.{_≡_};
 ghost use Prim.Native.Nat.{_≤_};
 ghost use mathlib.Core.List.{[], _∷_};
 ghost use lib.ListN.{length};
-ghost use Rattle.texts.specs.Puts.{Puts};
+ghost use Rattle.text_puts.specs.Puts.{Puts};
 ghost use Rattle.qasm_file.specs.File.{header, letterTexts, wordTexts, fileTexts};
 pub use back::put_back;
-use qasm_lines::Answer;
+use gate_qasm::Answer;
 
 // What `qasm` prints for an input.
 pub fn put_file(out: &mut [u8], bytes: &[u8]) -> usize
@@ -36,10 +36,10 @@ fn put_letters(out: &mut [u8], word: &[u8], place: usize) -> usize
     ensures { λ r. ⌜ Puts (now (out .entry), 0) (letterTexts place (now (word .entry))) (now (out .exit), r) 524335 ⌝ }
 {
     let mut lines = lines_buffer();
-    let a = qasm_lines::write(word, &mut lines);
+    let a = gate_qasm::write(word, &mut lines);
     match a {
         Answer::Wrote(n) => put_lines(out, &lines[..n]),
-        Answer::Refused(f) => texts::put_refusal(out, 0, f.number(), place),
+        Answer::Refused(f) => text_puts::put_refusal(out, 0, f.number(), place),
     }
 }
 

@@ -3,17 +3,17 @@ ghost use mathlib.Core.Path.{_≡_};
 ghost use mathlib.Core.Bool.{true, not};
 ghost use Rattle.ranks.specs.Rest.{isNil};
 ghost use Rattle.region.specs.Region.{acceptedJob};
-ghost use Rattle.reduction.specs.Undoing.{Undoing};
-ghost use Rattle.lists.specs.Walk.{full};
+ghost use Rattle.question_reduction.specs.Undoing.{Undoing};
+ghost use Rattle.walk_list.specs.Walk.{full};
 
 mod search;
 
-use brief::Look;
 use operator::Operator;
-use reduction::Invertible;
-pub use reduction::propose;
-use reduction::usable;
+use question_reduction::Invertible;
+pub use question_reduction::propose;
+use question_reduction::usable;
 use region::Job;
+use walk_brief::Look;
 
 // The fuel of a brief look, and of a longer one.
 const BRIEF: u64 = 32768;
@@ -24,7 +24,7 @@ const LONGER: u64 = 524288;
 pub fn has_solution(job: Job, caller: Operator) -> bool
     ensures { λ r. ⌜ r ≡ not (isNil (full job)) ⌝ }
 {
-    let k = brief::glance(job, BRIEF);
+    let k = walk_brief::glance(job, BRIEF);
     match k {
         Look::Found => true,
         Look::Nothing(_) => false,
@@ -48,7 +48,10 @@ fn searched(job: Job, caller: Operator) -> bool
     if b.is_void() {
         return false;
     }
-    settled(job, reduction::oriented(job, in_force(job, caller)))
+    settled(
+        job,
+        question_reduction::oriented(job, in_force(job, caller)),
+    )
 }
 
 // Whether the boxes are large and a region is a slice, which can be much thinner than they are.
@@ -57,12 +60,12 @@ fn is_loose(job: Job, g: Invertible) -> bool
 {
     let a = job.a;
     let b = job.b;
-    if extent::radius(a) == 0 {
-        if extent::radius(b) == 0 {
+    if region_extent::radius(a) == 0 {
+        if region_extent::radius(b) == 0 {
             return false;
         }
     }
-    reduction::is_large(job, g)
+    question_reduction::is_large(job, g)
 }
 
 // By the operator's boxes, or by a longer look first.
@@ -80,7 +83,7 @@ fn looked(job: Job, g: Invertible) -> bool
     requires { ⌜ (acceptedJob job ≡ true) × Undoing g ⌝ }
     ensures { λ r. ⌜ r ≡ not (isNil (full job)) ⌝ }
 {
-    let k = brief::glance(job, LONGER);
+    let k = walk_brief::glance(job, LONGER);
     match k {
         Look::Found => true,
         Look::Nothing(_) => false,
@@ -95,7 +98,7 @@ fn in_force(job: Job, caller: Operator) -> Invertible
     if is_identity(caller) {
         return usable(propose(job));
     }
-    reduction::chosen(job, usable(caller))
+    question_reduction::chosen(job, usable(caller))
 }
 
 fn is_identity(g: Operator) -> bool {

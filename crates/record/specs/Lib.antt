@@ -1,3 +1,3 @@
 -- What one reading of a job's bytes is.
 pub mod Record
-pub mod Taken
+pub mod lemmas

@@ -21,18 +21,18 @@ use Rattle.operator.specs.declared.Operator.{Operator}
 use Rattle.operator.specs.declared.Check.the-variants as O
 use Rattle.operator.specs.declared.Check as OperatorCheck
 use Rattle.operator.specs.Operator as Op
-use Rattle.kinds.specs.declared.Kind.{Kind}
-use Rattle.kinds.specs.declared.Kind.the-variants as K
-use Rattle.kinds.specs.declared.Turn.{Turn}
+use Rattle.record_kinds.specs.declared.Kind.{Kind}
+use Rattle.record_kinds.specs.declared.Kind.the-variants as K
+use Rattle.record_kinds.specs.declared.Turn.{Turn}
 use Rattle.record.specs.declared.Record.{Record}
 use Rattle.record.specs.declared.Record.the-variants as Rec
-use Rattle.kinds.specs.declared.Refusal.the-variants.{NoKind, UnknownKind, OutOfRange, NotPositive, OddParity, NotSpecial, NoDirection}
-use Rattle.kinds.specs.declared.Admission.{Admission}
-use Rattle.kinds.specs.declared.Admission.the-variants as A
+use Rattle.record_kinds.specs.declared.Refusal.the-variants.{NoKind, UnknownKind, OutOfRange, NotPositive, OddParity, NotSpecial, NoDirection}
+use Rattle.record_kinds.specs.declared.Admission.{Admission}
+use Rattle.record_kinds.specs.declared.Admission.the-variants as A
 use Rattle.record.specs.declared.Reading.{Reading}
 use Rattle.record.specs.declared.Reading.the-variants.{Accepted, Refused}
-use Rattle.kinds.specs.Kinds.{number, kindOf, bodyLength, inTurn, isKnown, admissionOf}
-use Rattle.fields.specs.Field.{unsignedAt, signedAt, one}
+use Rattle.record_kinds.specs.Kinds.{number, kindOf, bodyLength, inTurn, isKnown, admissionOf}
+use Rattle.record_fields.specs.Field.{unsignedAt, signedAt, one}
 
 -- ---- bodies
 -- 01: scale k, 0 to 20

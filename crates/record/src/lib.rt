@@ -4,13 +4,13 @@ ghost use Prim.Native.Nat.{_≤_};
 ghost use lib.ListN.{length};
 ghost use Rattle.region.specs.Region.{checkOf as regionCheck};
 ghost use Rattle.operator.specs.Operator.{checkOf as operatorCheck};
-ghost use Rattle.kinds.specs.Kinds.{bodyLength};
+ghost use Rattle.record_kinds.specs.Kinds.{bodyLength};
 ghost use Rattle.record.specs.Record.{Reads, bodyOf, scaleOf, selectionOf, rectangleOf, ellipseOf, sliceOf, operatorOf, regionReading, operatorReading};
-use kinds::Admission;
-use kinds::Kind;
-pub use kinds::Refusal;
-pub use kinds::Turn;
 use operator::Operator;
+use record_kinds::Admission;
+use record_kinds::Kind;
+pub use record_kinds::Refusal;
+pub use record_kinds::Turn;
 use region::Ellipse;
 use region::Rectangle;
 use region::Region;
@@ -37,9 +37,13 @@ pub fn read(bytes: &[u8], turn: Turn) -> Reading
     if bytes.len() == 0 {
         return Reading::Refused(Refusal::NoKind);
     }
-    let kind = kinds::kind_of(bytes[0]);
-    let short = bytes.len() - 1 < kinds::body_length(kind);
-    match kinds::admit(kinds::is_known(kind), kinds::in_turn(kind, turn), short) {
+    let kind = record_kinds::kind_of(bytes[0]);
+    let short = bytes.len() - 1 < record_kinds::body_length(kind);
+    match record_kinds::admit(
+        record_kinds::is_known(kind),
+        record_kinds::in_turn(kind, turn),
+        short,
+    ) {
         Admission::Refused(why) => Reading::Refused(why),
         Admission::Whole => body(kind, &bytes[1..]),
     }
@@ -66,7 +70,7 @@ fn scale_at(s: &[u8]) -> Reading
     ensures { λ r. ⌜ r ≡ scaleOf (now (s .entry)) ⌝ }
 {
     let k = s[0];
-    if ranges::scale(k) {
+    if record_ranges::scale(k) {
         Reading::Accepted(Record::Scale(k), 2)
     } else {
         Reading::Refused(Refusal::OutOfRange)
@@ -89,11 +93,11 @@ fn rectangle_at(s: &[u8]) -> Rectangle
     ensures { λ r. ⌜ r ≡ rectangleOf (now (s .entry)) ⌝ }
 {
     Rectangle {
-        n: fields::u16_at(s, 0),
-        xl: fields::i32_at(s, 2),
-        xh: fields::i32_at(s, 6),
-        yl: fields::i32_at(s, 10),
-        yh: fields::i32_at(s, 14),
+        n: record_fields::u16_at(s, 0),
+        xl: record_fields::i32_at(s, 2),
+        xh: record_fields::i32_at(s, 6),
+        yl: record_fields::i32_at(s, 10),
+        yh: record_fields::i32_at(s, 14),
     }
 }
 
@@ -102,13 +106,13 @@ fn ellipse_at(s: &[u8]) -> Ellipse
     ensures { λ r. ⌜ r ≡ ellipseOf (now (s .entry)) ⌝ }
 {
     Ellipse {
-        n: fields::u16_at(s, 0),
-        cx: fields::i32_at(s, 2),
-        cy: fields::i32_at(s, 6),
-        p: fields::u16_at(s, 10),
-        q: fields::i16_at(s, 12),
-        r: fields::u16_at(s, 14),
-        s: fields::u32_at(s, 16),
+        n: record_fields::u16_at(s, 0),
+        cx: record_fields::i32_at(s, 2),
+        cy: record_fields::i32_at(s, 6),
+        p: record_fields::u16_at(s, 10),
+        q: record_fields::i16_at(s, 12),
+        r: record_fields::u16_at(s, 14),
+        s: record_fields::u32_at(s, 16),
     }
 }
 
@@ -117,10 +121,10 @@ fn slice_at(s: &[u8]) -> Slice
     ensures { λ r. ⌜ r ≡ sliceOf (now (s .entry)) ⌝ }
 {
     Slice {
-        n: fields::u16_at(s, 0),
-        zx: fields::i16_at(s, 2),
-        zy: fields::i16_at(s, 4),
-        w: fields::i32_at(s, 6),
+        n: record_fields::u16_at(s, 0),
+        zx: record_fields::i16_at(s, 2),
+        zy: record_fields::i16_at(s, 4),
+        w: record_fields::i32_at(s, 6),
     }
 }
 
@@ -129,14 +133,14 @@ fn operator_at(s: &[u8]) -> Operator
     ensures { λ r. ⌜ r ≡ operatorOf (now (s .entry)) ⌝ }
 {
     Operator {
-        a: fields::i16_at(s, 0),
-        b: fields::i16_at(s, 2),
-        c: fields::i16_at(s, 4),
-        d: fields::i16_at(s, 6),
-        ai: fields::i16_at(s, 8),
-        bi: fields::i16_at(s, 10),
-        ci: fields::i16_at(s, 12),
-        di: fields::i16_at(s, 14),
+        a: record_fields::i16_at(s, 0),
+        b: record_fields::i16_at(s, 2),
+        c: record_fields::i16_at(s, 4),
+        d: record_fields::i16_at(s, 6),
+        ai: record_fields::i16_at(s, 8),
+        bi: record_fields::i16_at(s, 10),
+        ci: record_fields::i16_at(s, 12),
+        di: record_fields::i16_at(s, 14),
     }
 }
 

@@ -2,4 +2,4 @@
 pub mod Lines
 pub mod Texts
 pub mod Records
-pub mod Sizes
+pub mod lemmas

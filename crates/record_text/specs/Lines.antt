@@ -4,8 +4,8 @@ use mathlib.Core.Bool.{Bool, false, cond}
 use Prim.Native.Nat.{ℕ}
 use lib.Dec.{eqb}
 use lib.IntN.{ℤ, pos, negsuc}
-use Rattle.kinds.specs.declared.Kind.{Kind}
-use Rattle.kinds.specs.declared.Kind.the-variants as K
+use Rattle.record_kinds.specs.declared.Kind.{Kind}
+use Rattle.record_kinds.specs.declared.Kind.the-variants as K
 use Rattle.text.specs.Decimal.{signedDecimal}
 
 -- a space and a number, for each number

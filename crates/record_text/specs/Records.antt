@@ -10,9 +10,9 @@ use lib.IntN.{ℤ}
 use lib.ListN.{length, getD, drop, length-drop, drop-of-length-le}
 use lib.Seq.{drop-cons, drop-drop}
 use borrow.Author.Tests.{leb-true}
-use Rattle.kinds.specs.declared.Kind.{Kind}
-use Rattle.kinds.specs.Kinds.{kindOf, bodyLength, isKnown}
-use Rattle.forms.specs.Forms.{fieldsOf, numbersAt}
+use Rattle.record_kinds.specs.declared.Kind.{Kind}
+use Rattle.record_kinds.specs.Kinds.{kindOf, bodyLength, isKnown}
+use Rattle.record_forms.specs.Forms.{fieldsOf, numbersAt}
 use Rattle.record_text.specs.Texts.{textsOf}
 
 -- whether a record of a kind is whole with so many bytes behind the kind

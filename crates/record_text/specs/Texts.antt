@@ -9,12 +9,12 @@ use lib.IntN.{ℤ, pos, negsuc}
 use lib.ListN.{length, getD, drop, drop-of-length-le}
 use lib.Seq.{drop-cons}
 use borrow.Author.Tests.{ne-eqb}
-use Rattle.kinds.specs.declared.Kind.{Kind}
-use Rattle.kinds.specs.declared.Kind.the-variants as K
+use Rattle.record_kinds.specs.declared.Kind.{Kind}
+use Rattle.record_kinds.specs.declared.Kind.the-variants as K
 use Rattle.text.specs.Decimal.{signedDecimal}
 use Rattle.text.specs.Written.{written, after}
-use Rattle.forms.specs.Laid.{length-written}
-use Rattle.texts.specs.Puts.{Slate, put, puts, joined, Puts, one, join}
+use Rattle.record_forms.specs.Laid.{length-written}
+use Rattle.text_puts.specs.Puts.{Slate, put, puts, joined, Puts, one, join}
 use Rattle.record_text.specs.Lines.{numbersText, nameOf, isOne, selectionText, restText, lineOf, textOf}
 
 unfoldable pub numbersTexts : List ℤ → List (List ℕ)

@@ -2,15 +2,15 @@
 ghost use mathlib.Core.Path.{_≡_};
 ghost use Prim.Native.Nat.{_*_, _≤_};
 ghost use lib.ListN.{length};
-ghost use Rattle.kinds.specs.Kinds.{bodyLength};
-ghost use Rattle.forms.specs.Forms.{fieldsOf, numbersAt};
-ghost use Rattle.texts.specs.Puts.{Slate, Puts, puts};
+ghost use Rattle.record_kinds.specs.Kinds.{bodyLength};
+ghost use Rattle.record_forms.specs.Forms.{fieldsOf, numbersAt};
+ghost use Rattle.text_puts.specs.Puts.{Slate, Puts, puts};
 ghost use Rattle.record_text.specs.Texts.{numbersTexts, selectionTexts, restTexts, nameTexts, lineTexts};
 ghost use Rattle.record_text.specs.Records.{isWhole, shownTexts};
 
 mod numbers;
 
-use kinds::Kind;
+use record_kinds::Kind;
 
 // A line for each of the whole records that stand at the front of the bytes.
 pub fn put(out: &mut [u8], bytes: &[u8]) -> usize
@@ -19,13 +19,13 @@ pub fn put(out: &mut [u8], bytes: &[u8]) -> usize
     let mut at = 0;
     let mut end = 0;
     while at < bytes.len() {
-        let kind = kinds::kind_of(bytes[at]);
+        let kind = record_kinds::kind_of(bytes[at]);
         at += 1;
         if !is_whole(kind, bytes.len() - at) {
             return end;
         }
         end = put_line(out, end, kind, &bytes[at..]);
-        at += kinds::body_length(kind);
+        at += record_kinds::body_length(kind);
     }
     end
 }
@@ -34,8 +34,8 @@ pub fn put(out: &mut [u8], bytes: &[u8]) -> usize
 fn is_whole(kind: Kind, left: usize) -> bool
     ensures { λ r. ⌜ r ≡ isWhole kind left ⌝ }
 {
-    if kinds::is_known(kind) {
-        kinds::body_length(kind) <= left
+    if record_kinds::is_known(kind) {
+        record_kinds::body_length(kind) <= left
     } else {
         false
     }

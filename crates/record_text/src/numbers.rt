@@ -4,9 +4,9 @@ ghost use mathlib.Core.List.{[]};
 ghost use Prim.Native.Nat.{_+_, _≤_};
 ghost use lib.IntN.{pos};
 ghost use lib.ListN.{length, take};
-ghost use Rattle.kinds.specs.Kinds.{bodyLength};
-ghost use Rattle.forms.specs.Forms.{u, i, fieldsOf, numberAt, numbersAt};
-use kinds::Kind;
+ghost use Rattle.record_kinds.specs.Kinds.{bodyLength};
+ghost use Rattle.record_forms.specs.Forms.{u, i, fieldsOf, numberAt, numbersAt};
+use record_kinds::Kind;
 
 // The first `count`.
 pub(crate) struct Numbers {
@@ -151,26 +151,26 @@ fn unsigned2(s: &[u8], k: usize) -> i64
     requires { ⌜ k + 2 ≤ length (now s) ⌝ }
     ensures { λ r. ⌜ r ≡ numberAt (u 2) (now (s .entry)) k ⌝ }
 {
-    fields::u16_at(s, k) as i64
+    record_fields::u16_at(s, k) as i64
 }
 
 fn unsigned4(s: &[u8], k: usize) -> i64
     requires { ⌜ k + 4 ≤ length (now s) ⌝ }
     ensures { λ r. ⌜ r ≡ numberAt (u 4) (now (s .entry)) k ⌝ }
 {
-    fields::u32_at(s, k) as i64
+    record_fields::u32_at(s, k) as i64
 }
 
 fn signed2(s: &[u8], k: usize) -> i64
     requires { ⌜ k + 2 ≤ length (now s) ⌝ }
     ensures { λ r. ⌜ r ≡ numberAt (i 2) (now (s .entry)) k ⌝ }
 {
-    fields::i16_at(s, k) as i64
+    record_fields::i16_at(s, k) as i64
 }
 
 fn signed4(s: &[u8], k: usize) -> i64
     requires { ⌜ k + 4 ≤ length (now s) ⌝ }
     ensures { λ r. ⌜ r ≡ numberAt (i 4) (now (s .entry)) k ⌝ }
 {
-    fields::i32_at(s, k) as i64
+    record_fields::i32_at(s, k) as i64
 }

@@ -11,7 +11,7 @@ use Rattle.region.specs.declared.Enclosure.{Enclosure}
 use Rattle.region.specs.declared.Enclosure.the-variants as E
 use Rattle.region.specs.Region.{accepted, disk, holds}
 use Rattle.region.specs.Accepted.{slice-limits, disk-accepted}
-use Rattle.region.specs.Membership.{holds-disk}
+use Rattle.region.specs.lemmas.Membership.{holds-disk}
 use Rattle.region.specs.Over.{scale, Over}
 use Rattle.region.specs.Slice.{over-length}
 

@@ -8,20 +8,20 @@ use native.Mathlib.Omega.{arith}
 use lib.Dec.{le→leb}
 use lib.IntN.{ℤ, pos, natAbs, _+ℤ_, _-ℤ_, _*ℤ_}
 use Rattle.integers.specs.Difference.{_≼_}
-use Rattle.integers.specs.Order.{≼-trans}
-use Rattle.integers.specs.Ring.{poly, by-ring}
-use Rattle.integers.specs.RingZ.{polyZ}
-use Rattle.integers.specs.RingZ as Z
+use Rattle.integers.specs.lemmas.Order.{≼-trans}
+use Rattle.integers.specs.lemmas.Ring.{poly, by-ring}
+use Rattle.integers.specs.lemmas.RingZ.{polyZ}
+use Rattle.integers.specs.lemmas.RingZ as Z
 use Rattle.ring.specs.declared.RootTwo.{RootTwo}
 use Rattle.ring.specs.RootTwo.{_⊞_, _⊟_, _⊠_, neg, num, ring√, num-+, num-*, num-neg}
 use Rattle.ring.specs.RootTwo.Order.{nn-by, nn-+, nn-*, nn-num, nn-cancel, num-⊑, sq-⊑}
 use Rattle.ring.specs.RootTwo.Order as O
-use Rattle.lengths.specs.Products.{square, touches, touches-true}
-use Rattle.lengths.specs.Rounded.{Length}
+use Rattle.plane_lengths.specs.Products.{square, touches, touches-true}
+use Rattle.plane_lengths.specs.Rounded.{Length}
 use Rattle.region.specs.declared.Slice.{Slice}
 use Rattle.region.specs.declared.Region.the-variants as R
 use Rattle.region.specs.Region.{discriminant, form, disk}
-use Rattle.region.specs.Membership.{holds-in, holds-disk}
+use Rattle.region.specs.lemmas.Membership.{holds-in, holds-disk}
 use Rattle.region.specs.Reach.{width2}
 use Rattle.region.specs.Over.{Over, over-ellipse}
 

@@ -5,14 +5,14 @@ use denote.Struct.Declared.{row}
 use mir.Val.{Val}
 use Rattle.region.specs.declared.Job.{Job}
 use Rattle.operator.specs.declared.Operator.{Operator}
-use Rattle.lists.specs.declared.Spot.{Spot}
-use Rattle.lists.specs.declared.Spot.the-variants.{At, Ended}
-use Rattle.stages.specs.declared.Answer.{Answer}
-use Rattle.stages.specs.declared.Outcome.{Outcome}
-use Rattle.stages.specs.declared.Stage.{Stage}
-use Rattle.stages.specs.declared.Stage.the-variants.{Early, Walking}
-use Rattle.stages.specs.Meaning.{SpotFits, point, end, Fits, early, walking}
-use Rattle.stages.proofs.Outcome.{the-type}
+use Rattle.walk_list.specs.declared.Spot.{Spot}
+use Rattle.walk_list.specs.declared.Spot.the-variants.{At, Ended}
+use Rattle.session_stages.specs.declared.Answer.{Answer}
+use Rattle.session_stages.specs.declared.Outcome.{Outcome}
+use Rattle.session_stages.specs.declared.Stage.{Stage}
+use Rattle.session_stages.specs.declared.Stage.the-variants.{Early, Walking}
+use Rattle.session_stages.specs.Meaning.{SpotFits, point, end, Fits, early, walking}
+use Rattle.session_stages.proofs.Outcome.{the-type}
 
 -- the ranges of a result's numbers, by its type
 abbrev pub Ok : Outcome → List Val → Type 0

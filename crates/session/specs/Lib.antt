@@ -1,7 +1,5 @@
-pub mod Calls
-pub mod Remembered
 pub mod Run
 pub mod RunCalls
 pub mod RunWalk
 pub mod RunImage
-pub mod Shortest
+pub mod lemmas

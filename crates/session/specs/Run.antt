@@ -5,14 +5,14 @@ use mathlib.Core.List.{List, [], _∷_}
 use Prim.Native.Nat.{ℕ}
 use lib.IntN.{ℤ}
 use Rattle.ring.specs.declared.Point.{Point}
-use Rattle.calls.specs.Session.{Call, reading, handOut, rewind, clear, plain, imageOf, shortest, step, answers, after}
-use Rattle.calls.specs.Session as Model
-use Rattle.calls.specs.Since.{Exchange, exchanges, sinceAfter}
-use Rattle.stages.specs.declared.Session.{Session}
-use Rattle.stages.specs.declared.Answer.{Answer}
-use Rattle.stages.specs.World.{world}
-use Rattle.stages.specs.Meaning.{Fits}
-use Rattle.stages.specs.Session.{meaning, fresh, answerOf, Steps, Hands}
+use Rattle.session_model.specs.Session.{Call, reading, handOut, rewind, clear, plain, imageOf, shortest, step, answers, after}
+use Rattle.session_model.specs.Session as Model
+use Rattle.session_model.specs.Since.{Exchange, exchanges, sinceAfter}
+use Rattle.session_stages.specs.declared.Session.{Session}
+use Rattle.session_stages.specs.declared.Answer.{Answer}
+use Rattle.session_stages.specs.World.{world}
+use Rattle.session_stages.specs.Meaning.{Fits}
+use Rattle.session_stages.specs.Session.{meaning, fresh, answerOf, Steps, Hands}
 
 -- a call that was made: its arguments, what it answered, and the lent slice as it left it (none: [])
 pub record Made : Type 0 where

@@ -8,20 +8,20 @@ use lib.ListN.{length, take, drop}
 use Rattle.ranks.specs.Members.{Rising}
 use Rattle.ranks.specs.Rest.{isNil}
 use Rattle.ranks.specs.Handed.{flat}
-use Rattle.lists.specs.Walk.{numbersOf}
-use Rattle.calls.specs.Session.{Call, handOut, step, answers, after, isRefused}
-use Rattle.calls.specs.Session as Model
-use Rattle.calls.specs.Rules.{verdict, verdicts, begin}
-use Rattle.calls.specs.Since.{sinceAfter, since, points, spaces, fullOf}
-use Rattle.calls.specs.Refused.{unrefused, granted, refused-same, refused-lent}
-use Rattle.calls.specs.Operators.{struck, isHandOut, isIndependent, picked}
-use Rattle.kinds.specs.declared.Refusal.{Refusal}
-use Rattle.stages.specs.declared.Session.{Session}
-use Rattle.stages.specs.declared.Answer.the-variants as A
-use Rattle.stages.specs.World.{world}
-use Rattle.stages.specs.Session.{meaning, fresh, Hands}
-use Rattle.stages.specs.Meaning.{early, meaning-one}
-use Rattle.session.specs.Calls.{left, session-rules, session-first, session-rising, session-count, session-end, session-refused, session-operators, session-others}
+use Rattle.walk_list.specs.Walk.{numbersOf}
+use Rattle.session_model.specs.Session.{Call, handOut, step, answers, after, isRefused}
+use Rattle.session_model.specs.Session as Model
+use Rattle.session_model.specs.Rules.{verdict, verdicts, begin}
+use Rattle.session_model.specs.Since.{sinceAfter, since, points, spaces, fullOf}
+use Rattle.session_model.specs.lemmas.Refused.{unrefused, granted, refused-same, refused-lent}
+use Rattle.session_model.specs.Operators.{struck, isHandOut, isIndependent, picked}
+use Rattle.record_kinds.specs.declared.Refusal.{Refusal}
+use Rattle.session_stages.specs.declared.Session.{Session}
+use Rattle.session_stages.specs.declared.Answer.the-variants as A
+use Rattle.session_stages.specs.World.{world}
+use Rattle.session_stages.specs.Session.{meaning, fresh, Hands}
+use Rattle.session_stages.specs.Meaning.{early, meaning-one}
+use Rattle.session.specs.lemmas.Calls.{left, session-rules, session-first, session-rising, session-count, session-end, session-refused, session-operators, session-others}
 use Rattle.session.specs.Run.{Made, Link, hand-out, From, none, then, Run, Machine, machine-fits, callsOf, answered, answersOf, sinceOf, link-answer, link-session, from-answers, from-after, from-exchanges}
 
 pub run-since : {ms : List Made} {t : Session} → Run ms t → sinceOf ms ≡ since world (callsOf ms)

@@ -10,17 +10,17 @@ use Rattle.region.specs.Selection.{listed-parts, is-listed}
 use Rattle.operator.specs.declared.Operator.{Operator}
 use Rattle.operator.specs.declared.Check.the-variants.{Special}
 use Rattle.operator.specs.Operator.{identity, checkOf, imageOf}
-use Rattle.calls.specs.Session as Model
-use Rattle.calls.specs.Remembered.{operatorOf, lastAccepted}
-use Rattle.stages.specs.declared.Course.{Course}
-use Rattle.stages.specs.declared.Stage.the-variants as S
-use Rattle.stages.specs.declared.Session.{Session}
-use Rattle.stages.specs.declared.Answer.the-variants as A
-use Rattle.stages.specs.World.{world, isImage}
-use Rattle.stages.specs.Session.{meaning, Steps}
-use Rattle.images.specs.Image.{Sent, image-yes}
-use Rattle.session.specs.Calls.{session-remembers}
-use Rattle.session.specs.Remembered.{remembered-special}
+use Rattle.session_model.specs.Session as Model
+use Rattle.session_model.specs.Remembered.{operatorOf, lastAccepted}
+use Rattle.session_stages.specs.declared.Course.{Course}
+use Rattle.session_stages.specs.declared.Stage.the-variants as S
+use Rattle.session_stages.specs.declared.Session.{Session}
+use Rattle.session_stages.specs.declared.Answer.the-variants as A
+use Rattle.session_stages.specs.World.{world, isImage}
+use Rattle.session_stages.specs.Session.{meaning, Steps}
+use Rattle.session_images.specs.Image.{Sent, image-yes}
+use Rattle.session.specs.lemmas.Calls.{session-remembers}
+use Rattle.session.specs.lemmas.Remembered.{remembered-special}
 use Rattle.session.specs.Run.{Made, Run, callsOf, exchangesOf, from-after, from-exchanges}
 use Rattle.session.specs.RunWalk.{SelectedSolution}
 

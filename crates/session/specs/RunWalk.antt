@@ -13,26 +13,26 @@ use Rattle.region.specs.Selection.{selects, listed, listed-parts, is-listed}
 use Rattle.ranks.specs.Rest.{Place, isNil}
 use Rattle.ranks.specs.Rank.{top}
 use Rattle.ranks.specs.Members.{Rising}
-use Rattle.points.specs.Listed.{listed-there, there-listed}
-use Rattle.points.specs.Ascending.{Ascending, ascending, rest-passing}
-use Rattle.points.specs.Slices.{pointsOf, flat-points}
+use Rattle.ring_points.specs.Listed.{listed-there, there-listed}
+use Rattle.ring_points.specs.Ascending.{Ascending, ascending, rest-passing}
+use Rattle.ring_points.specs.Slices.{pointsOf, flat-points}
 use Rattle.cuts.specs.Digits.{span}
-use Rattle.lists.specs.Walk.{pointOf, listedAt, full}
-use Rattle.lists.specs.Full.{full-holds, full-empty, listed-fits}
+use Rattle.walk_list.specs.Walk.{pointOf, listedAt, full}
+use Rattle.walk_list.specs.lemmas.Full.{full-holds, full-empty, listed-fits}
 use Rattle.operator.specs.declared.Operator.{Operator}
-use Rattle.calls.specs.Session.{whole, plain, early, walking}
-use Rattle.calls.specs.Session as Model
-use Rattle.calls.specs.Rules.{begin, knownAfter}
-use Rattle.calls.specs.Agree.{jobOf, whole-job}
-use Rattle.calls.specs.Since.{points, spaces, fullOf}
-use Rattle.calls.specs.End.{reported, finished-all}
-use Rattle.stages.specs.declared.Course.{Course}
-use Rattle.stages.specs.declared.Stage.{Stage}
-use Rattle.stages.specs.declared.Stage.the-variants as S
-use Rattle.stages.specs.declared.Session.{Session}
-use Rattle.stages.specs.declared.Answer.the-variants as A
-use Rattle.stages.specs.World.{world}
-use Rattle.stages.specs.Session.{stageOf, meaning, Steps}
+use Rattle.session_model.specs.Session.{whole, plain, early, walking}
+use Rattle.session_model.specs.Session as Model
+use Rattle.session_model.specs.Rules.{begin, knownAfter}
+use Rattle.session_model.specs.lemmas.Agree.{jobOf, whole-job}
+use Rattle.session_model.specs.Since.{points, spaces, fullOf}
+use Rattle.session_model.specs.End.{reported, finished-all}
+use Rattle.session_stages.specs.declared.Course.{Course}
+use Rattle.session_stages.specs.declared.Stage.{Stage}
+use Rattle.session_stages.specs.declared.Stage.the-variants as S
+use Rattle.session_stages.specs.declared.Session.{Session}
+use Rattle.session_stages.specs.declared.Answer.the-variants as A
+use Rattle.session_stages.specs.World.{world}
+use Rattle.session_stages.specs.Session.{stageOf, meaning, Steps}
 use Rattle.session.specs.Run.{Made, Run, callsOf, sinceOf, from-after}
 use Rattle.session.specs.RunCalls.{listOf, run-since, run-first, run-rising}
 

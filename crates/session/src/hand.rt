@@ -1,21 +1,21 @@
 // A session's hand-outs.
 ghost use mathlib.Core.Path.{_≡_};
 ghost use mathlib.Core.Bool.{true};
-ghost use Rattle.calls.specs.Session.{step, handOut, given};
+ghost use Rattle.session_model.specs.Session.{step, handOut, given};
 ghost use Rattle.ranks.specs.Rest.{leftAt};
 ghost use Rattle.ranks.specs.Rank.{top};
 ghost use Rattle.cuts.specs.Digits.{span};
-ghost use Rattle.lists.specs.Walk.{listedAt, spotOf};
-ghost use Rattle.stages.specs.World.{world};
-ghost use Rattle.stages.specs.Session.{courseOf, ended, EmptyIf, Gives};
+ghost use Rattle.walk_list.specs.Walk.{listedAt, spotOf};
+ghost use Rattle.session_stages.specs.World.{world};
+ghost use Rattle.session_stages.specs.Session.{courseOf, ended, EmptyIf, Gives};
 use operator::Operator;
 use record::Refusal;
-use stages::Answer;
-use stages::Course;
-use stages::Outcome;
-use stages::Session;
-use stages::Stage;
-use stages::place;
+use session_stages::Answer;
+use session_stages::Course;
+use session_stages::Outcome;
+use session_stages::Session;
+use session_stages::Stage;
+use session_stages::place;
 use walk::Spot;
 
 // With a job: after the end was reported it is refused.

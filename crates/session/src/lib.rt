@@ -1,31 +1,31 @@
-// A session and its calls, by value: SPEC, "Walk" and "Calls". Each call's contract is one step of the model in `calls`.
+// A session and its calls, by value: SPEC, "Walk" and "Calls". Each call's contract is one step of the model in `session_model`.
 ghost use mathlib.Core.List.{[]};
-ghost use Rattle.calls.specs.Session.{reading, rewind, plain, imageOf, shortest};
-ghost use Rattle.stages.specs.Meaning.{Fits};
-ghost use Rattle.stages.specs.Session.{Steps, Hands};
+ghost use Rattle.session_model.specs.Session.{reading, rewind, plain, imageOf, shortest};
+ghost use Rattle.session_stages.specs.Meaning.{Fits};
+ghost use Rattle.session_stages.specs.Session.{Steps, Hands};
 
 mod hand;
 
 use record::Reading;
 use record::Refusal;
 use ring::Point;
-pub use stages::Answer;
-pub use stages::Outcome;
-pub use stages::Parts;
-pub use stages::Session;
-pub use stages::Stage;
-pub use stages::clear;
-pub use stages::start;
+pub use session_stages::Answer;
+pub use session_stages::Outcome;
+pub use session_stages::Parts;
+pub use session_stages::Session;
+pub use session_stages::Stage;
+pub use session_stages::clear;
+pub use session_stages::start;
 
 // One reading: a record from the front of the bytes joins the session, or is refused.
 pub fn read(s: Session, bytes: &[u8]) -> Outcome
     ensures { λ r. ⌜ Steps (reading (now (bytes .entry))) [] s (r .session) (r .answer) ⌝ }
     ensures fits { λ r. ⌜ Fits (r .session .stage) ⌝ }
 {
-    let r = record::read(bytes, turns::turn(s));
+    let r = record::read(bytes, session_turns::turn(s));
     match r {
-        Reading::Accepted(x, n) => turns::accepted(s, x, n),
-        Reading::Refused(f) => stages::refused(s, f),
+        Reading::Accepted(x, n) => session_turns::accepted(s, x, n),
+        Reading::Refused(f) => session_stages::refused(s, f),
     }
 }
 
@@ -36,7 +36,7 @@ pub fn hand_out(s: Session, out: &mut [i32]) -> Outcome
 {
     let g = s.stage;
     match g {
-        Stage::Early(_) => stages::no_job(s),
+        Stage::Early(_) => session_stages::no_job(s),
         Stage::Walking(c) => hand::from_course(c, out),
     }
 }
@@ -48,8 +48,8 @@ pub fn rewind(s: Session) -> Outcome
 {
     let g = s.stage;
     match g {
-        Stage::Early(_) => stages::no_job(s),
-        Stage::Walking(c) => stages::place::rewound(c),
+        Stage::Early(_) => session_stages::no_job(s),
+        Stage::Walking(c) => session_stages::place::rewound(c),
     }
 }
 
@@ -71,7 +71,7 @@ pub fn has_image(s: Session, w: Point) -> Answer
     let g = s.stage;
     match g {
         Stage::Early(_) => Answer::Refused(Refusal::NoJob),
-        Stage::Walking(c) => Answer::Says(images::is_image(c.job, c.operator, w)),
+        Stage::Walking(c) => Answer::Says(session_images::is_image(c.job, c.operator, w)),
     }
 }
 
@@ -82,6 +82,6 @@ pub fn shortest(s: Session) -> Answer
     let g = s.stage;
     match g {
         Stage::Early(_) => Answer::Refused(Refusal::NoJob),
-        Stage::Walking(c) => stages::least(shortest::of_job(c.job)),
+        Stage::Walking(c) => session_stages::tell_pattern(pattern_shortest::of_job(c.job)),
     }
 }

@@ -6,9 +6,9 @@ use Prim.Native.Nat.{ℕ, zero, suc, _+_, _≤_}
 use native.Mathlib.Decide.{decLe}
 use native.Mathlib.Omega.{arith}
 use lib.ListN.{length, drop, length-drop}
-use Rattle.kinds.specs.declared.Turn.{Turn}
-use Rattle.kinds.specs.declared.Turn.the-variants as T
-use Rattle.kinds.specs.Kinds.{kindOf, bodyLength}
+use Rattle.record_kinds.specs.declared.Turn.{Turn}
+use Rattle.record_kinds.specs.declared.Turn.the-variants as T
+use Rattle.record_kinds.specs.Kinds.{kindOf, bodyLength}
 use Rattle.record.specs.declared.Reading as D
 use Rattle.record.specs.declared.Reading.the-variants as RV
 use Rattle.record.specs.declared.Record.{Record}
@@ -18,23 +18,23 @@ use Rattle.region.specs.declared.Region.{Region}
 use Rattle.region.specs.declared.Job.{Job}
 use Rattle.operator.specs.declared.Operator.{Operator}
 use Rattle.ranks.specs.Rest.{Place}
-use Rattle.calls.specs.Session.{reading, refused, taken, handed, done, says, best, early, walking, step, joined, remembered}
-use Rattle.calls.specs.Session as Model
-use Rattle.stages.specs.declared.Parts.{Parts}
-use Rattle.stages.specs.declared.Parts.the-variants.{Nothing, Scaled, Selected, First}
-use Rattle.stages.specs.Session.{meaning, fresh}
-use Rattle.stages.specs.World.{world, turnAt, placeScale, placeSelection, placeRegion, partReading, operatorReading}
-use Rattle.forms.specs.Back.{Bytes}
+use Rattle.session_model.specs.Session.{reading, refused, taken, handed, done, says, best, early, walking, step, joined, remembered}
+use Rattle.session_model.specs.Session as Model
+use Rattle.session_stages.specs.declared.Parts.{Parts}
+use Rattle.session_stages.specs.declared.Parts.the-variants.{Nothing, Scaled, Selected, First}
+use Rattle.session_stages.specs.Session.{meaning, fresh}
+use Rattle.session_stages.specs.World.{world, turnAt, placeScale, placeSelection, placeRegion, partReading, operatorReading}
+use Rattle.record_forms.specs.Back.{Bytes}
 use Rattle.record_text.specs.Lines.{textOf}
 use Rattle.record_text.specs.Texts.{joined-texts}
 use Rattle.record_text.specs.Records.{recordsIn, whole-long, whole-known}
-use Rattle.record_text.specs.Sizes.{bytes-drop, records-size}
-use Rattle.record_lines.specs.Text.{Proper, recordsOf, text-back}
+use Rattle.record_text.specs.lemmas.Sizes.{bytes-drop, records-size}
+use Rattle.job_record_lines.specs.Text.{Proper, recordsOf, text-back}
 use Rattle.job_words.specs.Rows.{jobOf}
-use Rattle.readback.specs.Again.{record-again}
-use Rattle.readback.specs.Whole.{accepted-whole}
-use Rattle.input.specs.Load.{ready, tooLong, onward, records, most, loadOf}
-use Rattle.input.specs.Reading.{load-long, load-records}
+use Rattle.record_readback.specs.Again.{record-again}
+use Rattle.record_readback.specs.Whole.{accepted-whole}
+use Rattle.list_input.specs.Load.{ready, tooLong, onward, records, most, loadOf}
+use Rattle.list_input.specs.lemmas.Reading.{load-long, load-records}
 use Rattle.show.specs.Show.{showOf}
 
 -- ---- a reading is refused, or takes a record that is accepted

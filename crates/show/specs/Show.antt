@@ -2,11 +2,11 @@
 use mathlib.Core.Path.{_≡_, refl}
 use mathlib.Core.List.{List, [], _∷_, append-assoc, append-nil}
 use Prim.Native.Nat.{ℕ}
-use Rattle.texts.specs.Texts.{refusalTexts}
-use Rattle.texts.specs.Puts.{joined}
+use Rattle.text_puts.specs.Texts.{refusalTexts}
+use Rattle.text_puts.specs.Puts.{joined}
 use Rattle.list_lines.specs.Lines.{countText, refusalLine, tooLongLine}
 use Rattle.record_text.specs.Records.{shownTexts}
-use Rattle.input.specs.Load.{Loaded, ready, refused, tooLong, loadOf}
+use Rattle.list_input.specs.Load.{Loaded, ready, refused, tooLong, loadOf}
 
 -- a line a record, or `refused R at P`, or `too long`, as `list` says it
 abbrev pub textsFor : List ℕ → Loaded → List (List ℕ)

@@ -9,9 +9,9 @@ use borrow.Author.Tests.{le-leb}
 use lib.Dec.{leb, lit≤}
 use lib.ListN.{length, drop, set, length-set, drop-of-length-le}
 use lib.Seq.{drop-cons, drop-set-lt, getD-set-same, append-snoc}
-use Rattle.words.specs.declared.Size.{Size}
+use Rattle.integers_wide.specs.declared.Size.{Size}
 use Rattle.text.specs.Decimal.{decimal}
-use Rattle.words.specs.Meaning.{sizeOf}
+use Rattle.integers_wide.specs.Meaning.{sizeOf}
 use Rattle.text.proofs.Digits.{decimal-one, decimal-more}
 
 abbrev words : ℕ → ℕ → Size

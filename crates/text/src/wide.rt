@@ -4,10 +4,10 @@ ghost use mathlib.Core.Path.{_≡_};
 ghost use lib.Dec.{leb};
 ghost use lib.ListN.{length, drop};
 ghost use Rattle.text.specs.Decimal.{decimal};
-ghost use Rattle.words.specs.Meaning.{sizeOf};
+ghost use Rattle.integers_wide.specs.Meaning.{sizeOf};
 ghost use Rattle.text.specs.Written.{written, after};
 use crate::write::put_bytes;
-use words::Size;
+use integers_wide::Size;
 
 // A tenth of a number, rounded down, and its last digit.
 struct Tenth {

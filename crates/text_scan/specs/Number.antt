@@ -6,7 +6,7 @@ use mathlib.Core.List.{List, foldl}
 use lib.Dec.{leb, ltb, eqb}
 use lib.IntN.{ℤ, pos}
 use lib.ListN.{length, getD, drop}
-use Rattle.words.specs.Meaning.{meaning, sizeOf, turnedIf}
+use Rattle.integers_wide.specs.Meaning.{meaning, sizeOf, turnedIf}
 use Rattle.text_scan.specs.Run.{run}
 use Rattle.text_scan.specs.declared.Number.{Number}
 use Rattle.text_scan.specs.declared.Number.the-variants as one

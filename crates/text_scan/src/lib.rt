@@ -2,11 +2,11 @@
 ghost use Prim.Native.Nat.{ℕ, _+_, _^_, _≤_, min};
 ghost use mathlib.Core.Path.{_≡_};
 ghost use lib.IntN.{pos, negℤ};
-ghost use Rattle.words.specs.Meaning.{sizeOf};
+ghost use Rattle.integers_wide.specs.Meaning.{sizeOf};
 ghost use Rattle.text_scan.specs.Run.{runEnd, isByte, spacesFrom, wordEnd, lineEnd};
 ghost use Rattle.text_scan.specs.Number.{isDigit, digitsAt, withDigit, valueOf, spelling, fitted, readOf, wideReadOf, spelledOf, numberFrom, numberAt};
-use words::Size;
-use words::Wide;
+use integers_wide::Size;
+use integers_wide::Wide;
 
 // A number's value with the place after it, or no number that fits one word.
 pub enum Number {

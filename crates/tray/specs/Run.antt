@@ -3,14 +3,14 @@
 use mathlib.Core.Path.{_≡_, refl, ap, ap₂, _∙_}
 use mathlib.Core.List.{List, [], _∷_}
 use lib.IntN.{ℤ}
-use Rattle.takes.specs.Session.{Call, taking, handOut, rewind, clear, step, answers, after, early}
-use Rattle.takes.specs.Session as Model
-use Rattle.takes.specs.Rules.{ruled, begin}
-use Rattle.taking.specs.Taking.{Given}
+use Rattle.tray_model.specs.Session.{Call, taking, handOut, rewind, clear, step, answers, after, early}
+use Rattle.tray_model.specs.Session as Model
+use Rattle.tray_model.specs.Rules.{ruled, begin}
+use Rattle.tray_taking.specs.Taking.{Given}
 use Rattle.tray.specs.declared.Session.{Session}
 use Rattle.tray.specs.declared.Answer.{Answer}
 use Rattle.tray.specs.Session.{world, meaning, fresh, answerOf, Steps, Hands}
-use Rattle.tray.specs.Calls.{session-rules}
+use Rattle.tray.specs.lemmas.Calls.{session-rules}
 
 -- a call that was made: its arguments, what it answered, and the lent slice as it left it (none: [])
 pub record Made : Type 0 where

@@ -11,28 +11,28 @@ use Rattle.ranks.specs.Rest.{Place, isNil}
 use Rattle.ranks.specs.Rank.{top}
 use Rattle.ranks.specs.Members.{Rising}
 use Rattle.ranks.specs.Handed.{flat}
-use Rattle.points.specs.Listed.{listed-there, there-listed}
-use Rattle.points.specs.Ascending.{Ascending, ascending, rest-passing}
+use Rattle.ring_points.specs.Listed.{listed-there, there-listed}
+use Rattle.ring_points.specs.Ascending.{Ascending, ascending, rest-passing}
 use Rattle.cuts.specs.Digits.{span}
-use Rattle.lists.specs.Walk.{pointOf}
-use Rattle.lists.specs.Walk as One
+use Rattle.walk_list.specs.Walk.{pointOf}
+use Rattle.walk_list.specs.Walk as One
 use Rattle.region.specs.Selection.{listed}
-use Rattle.takes.specs.Session.{Call, handOut, step, answers, after, early, walking, isRefused}
-use Rattle.takes.specs.Session as Model
-use Rattle.takes.specs.Since.{Exchange, exchanges, sinceAfter, since, points, spaces, fullOf, numbers}
-use Rattle.takes.specs.Refused.{unrefused, granted, refused-same, refused-lent}
-use Rattle.takes.specs.End.{reported}
-use Rattle.trays.specs.declared.Tray.{Tray}
-use Rattle.trays.specs.Tray.{jobAt, size, anyAt, fiveOf, full}
-use Rattle.trays.specs.Own.{fourOf}
-use Rattle.trays.specs.Full.{listedBy, listed-by-fits, by-one, full-holds}
-use Rattle.trays.specs.Points.{fivesOf, flat-fives}
-use Rattle.taking.specs.declared.Refusal.{Refusal}
+use Rattle.tray_model.specs.Session.{Call, handOut, step, answers, after, early, walking, isRefused}
+use Rattle.tray_model.specs.Session as Model
+use Rattle.tray_model.specs.Since.{Exchange, exchanges, sinceAfter, since, points, spaces, fullOf, numbers}
+use Rattle.tray_model.specs.lemmas.Refused.{unrefused, granted, refused-same, refused-lent}
+use Rattle.tray_model.specs.End.{reported}
+use Rattle.tray_list.specs.declared.Tray.{Tray}
+use Rattle.tray_list.specs.Tray.{jobAt, size, anyAt, fiveOf, full}
+use Rattle.tray_list.specs.Own.{fourOf}
+use Rattle.tray_list.specs.lemmas.Full.{listedBy, listed-by-fits, by-one, full-holds}
+use Rattle.tray_list.specs.Points.{fivesOf, flat-fives}
+use Rattle.tray_taking.specs.declared.Refusal.{Refusal}
 use Rattle.tray.specs.declared.Session.{Session}
 use Rattle.tray.specs.declared.Answer.the-variants as A
 use Rattle.tray.specs.Session.{world, meaning, fresh, Hands}
-use Rattle.tray.specs.Meaning.{Fits, Same, meaning-one}
-use Rattle.tray.specs.Calls.{left, session-first, session-rising, session-count, session-end, session-refused, session-finished}
+use Rattle.tray.specs.lemmas.Meaning.{Fits, Same, meaning-one}
+use Rattle.tray.specs.lemmas.Calls.{left, session-first, session-rising, session-count, session-end, session-refused, session-finished}
 use Rattle.tray.specs.Run.{Made, Link, hand-out, From, none, then, callsOf, answered, answersOf, link-answer, link-session, from-answers, from-after}
 
 abbrev pub Run : List Made → Session → Type 0

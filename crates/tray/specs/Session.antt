@@ -1,4 +1,4 @@
--- What a session of trays and its answers mean, in the model of `takes`. Every value of the type has a meaning.
+-- What a session of trays and its answers mean, in the model of `tray_model`. Every value of the type has a meaning.
 use mathlib.Core.Path.{_≡_, refl, sym, ap, _∙_}
 use mathlib.Core.Bool.{Bool}
 use mathlib.Core.List.{List, []}
@@ -9,28 +9,28 @@ use Rattle.ring.specs.declared.Point.{Point}
 use Rattle.ranks.specs.Rest.{at, isEnded, ended-nil, leftAt}
 use Rattle.ranks.specs.Rank.{top}
 use Rattle.ranks.specs.Handed.{Gave}
-use Rattle.lists.specs.declared.Spot.{Spot}
-use Rattle.lists.specs.declared.Spot.the-variants as P
+use Rattle.walk_list.specs.declared.Spot.{Spot}
+use Rattle.walk_list.specs.declared.Spot.the-variants as P
 use Rattle.cuts.specs.Digits.{span}
-use Rattle.lists.specs.Walk.{spotOf}
-use Rattle.takes.specs.Session.{World, Call, handOut, refused, taken, handed, done, early, walking, given, step, lent}
-use Rattle.takes.specs.Session as Model
-use Rattle.trays.specs.declared.Tray.{Tray}
-use Rattle.trays.specs.Tray.{anyAt, fiveOf}
-use Rattle.kinds.specs.declared.Refusal.the-variants.{Ended}
-use Rattle.taking.specs.declared.Refusal.{Refusal}
-use Rattle.taking.specs.declared.Refusal.the-variants as F
-use Rattle.taking.specs.declared.Answer as T
-use Rattle.taking.specs.declared.Verdict.{Verdict}
-use Rattle.taking.specs.declared.Verdict.the-variants as Said
-use Rattle.taking.specs.Taking.{Given, takes, takeOf, numberOf, noTray}
+use Rattle.walk_list.specs.Walk.{spotOf}
+use Rattle.tray_model.specs.Session.{World, Call, handOut, refused, taken, handed, done, early, walking, given, step, lent}
+use Rattle.tray_model.specs.Session as Model
+use Rattle.tray_list.specs.declared.Tray.{Tray}
+use Rattle.tray_list.specs.Tray.{anyAt, fiveOf}
+use Rattle.record_kinds.specs.declared.Refusal.the-variants.{Ended}
+use Rattle.tray_taking.specs.declared.Refusal.{Refusal}
+use Rattle.tray_taking.specs.declared.Refusal.the-variants as F
+use Rattle.tray_taking.specs.declared.Answer as T
+use Rattle.tray_taking.specs.declared.Verdict.{Verdict}
+use Rattle.tray_taking.specs.declared.Verdict.the-variants as Said
+use Rattle.tray_taking.specs.Taking.{Given, takes, takeOf, numberOf, noTray}
 use Rattle.tray.specs.declared.Stage.{Stage}
 use Rattle.tray.specs.declared.Stage.the-variants as S
 use Rattle.tray.specs.declared.Session.{Session}
 use Rattle.tray.specs.declared.Answer.{Answer}
 use Rattle.tray.specs.declared.Answer.the-variants as A
 
--- trays, as `takes` asks for them: a point is five numbers
+-- trays, as `tray_model` asks for them: a point is five numbers
 abbrev pub world : World
 world = record {
   Tray = Tray;
@@ -67,7 +67,7 @@ outcome l s a = (answerOf l a, meaning s)
 abbrev pub Steps : Call world → List ℤ → Session → Session → Answer → Type 0
 Steps c l s t a = outcome l t a ≡ step world c (meaning s)
 
--- a take of what `taking::take` read
+-- a take of what `tray_taking::take` read
 abbrev pub Takes : Session → T.Answer → Session → Answer → Type 0
 Takes s g t a = outcome [] t a ≡ Model.begun world (meaning s) (takeOf (g .verdict) (g .tray))
 

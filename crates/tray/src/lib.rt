@@ -1,17 +1,17 @@
-// A session of trays and its calls, by value: SPEC, "Trays". Each call's contract is one step of the model in `takes`.
+// A session of trays and its calls, by value: SPEC, "Trays". Each call's contract is one step of the model in `tray_model`.
 ghost use mathlib.Core.Path.{_≡_};
 ghost use mathlib.Core.List.{[]};
-ghost use Rattle.takes.specs.Session.{taking as takingOf, handOut, rewind as rewinding, clear as clearing, given, done, walking};
+ghost use Rattle.tray_model.specs.Session.{taking as takingOf, handOut, rewind as rewinding, clear as clearing, given, done, walking};
 ghost use Rattle.ranks.specs.Rest.{at, leftAt};
 ghost use Rattle.ranks.specs.Rank.{top};
 ghost use Rattle.cuts.specs.Digits.{span};
-ghost use Rattle.lists.specs.Walk.{spotOf};
-ghost use Rattle.trays.specs.Tray.{anyAt};
+ghost use Rattle.walk_list.specs.Walk.{spotOf};
+ghost use Rattle.tray_list.specs.Tray.{anyAt};
 ghost use Rattle.tray.specs.Session.{world, meaning, outcome, fresh, Steps, Takes, Gives, Hands};
-use stages::place;
-pub use taking::Refusal;
-use taking::Verdict;
-use trays::Tray;
+use session_stages::place;
+use tray_list::Tray;
+pub use tray_taking::Refusal;
+use tray_taking::Verdict;
 use walk::Spot;
 
 // Whether a tray was taken, and where its walk stands.
@@ -45,7 +45,7 @@ pub fn start() -> Session
 {
     Session {
         stage: Stage::Early,
-        tray: taking::no_tray(),
+        tray: tray_taking::no_tray(),
     }
 }
 
@@ -63,11 +63,11 @@ pub fn clear(s: Session) -> Outcome
 pub fn take(s: Session, k: u64, byte: u64, a: &[u8], b: &[u8]) -> Outcome
     ensures { λ r. ⌜ Steps (takingOf (record { scale = k; byte = byte; a = now (a .entry); b = now (b .entry) })) [] s (r .session) (r .answer) ⌝ }
 {
-    taken(s, taking::take(k, byte, a, b))
+    taken(s, tray_taking::take(k, byte, a, b))
 }
 
-// The same with what `taking::take` read.
-pub fn taken(s: Session, g: taking::Answer) -> Outcome
+// The same with what `tray_taking::take` read.
+pub fn taken(s: Session, g: tray_taking::Answer) -> Outcome
     ensures { λ r. ⌜ Takes s g (r .session) (r .answer) ⌝ }
 {
     let v = g.verdict;
@@ -146,7 +146,7 @@ fn begun(t: Tray, a: Answer) -> Outcome
 fn handed(t: Tray, p: Spot, out: &mut [i32]) -> Outcome
     ensures { λ r. ⌜ Gives (given world t (now (out .entry)) (leftAt (anyAt t) (top span) (spotOf p))) (now (out .entry)) (now (out .exit)) (r .session) (r .answer) ⌝ }
 {
-    let h = merge::hand_out(t, p, out);
+    let h = tray_merge::hand_out(t, p, out);
     let spot = h.spot;
     Outcome {
         session: Session {

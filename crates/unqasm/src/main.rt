@@ -1,12 +1,12 @@
 // The program `unqasm`: a file of OpenQASM 2.0 on standard input, its word on standard output. SPEC, "OpenQASM programs".
 ghost use mathlib.Core.Path.{_≡_};
 ghost use lib.ListN.{length};
-ghost use Rattle.transfer.specs.Sending.{Sent};
-ghost use Rattle.filter.specs.Answered.{Answered};
+ghost use Rattle.system_transfer.specs.Sending.{Sent};
+ghost use Rattle.program_filter.specs.Answered.{Answered};
 ghost use Rattle.qasm_file.specs.File.{backOf};
 
 fn main() {
-    if usage::told(b"usage: unqasm < FILE\nThe word of a file of OpenQASM 2.0.\n") {
+    if program_usage::told(b"usage: unqasm < FILE\nThe word of a file of OpenQASM 2.0.\n") {
         return;
     }
     let mut input = input_buffer();
@@ -17,7 +17,7 @@ fn main() {
 fn answer(input: &mut [u8]) -> bool
     ensures { λ r. ⌜ Answered backOf (now (input .exit)) r ⌝ }
 {
-    let got = filter::read(input);
+    let got = program_filter::read(input);
     let n = got.at;
     if got.failed {
         return false;
@@ -30,7 +30,7 @@ fn say(bytes: &[u8]) -> bool
 {
     let mut out = output_buffer();
     let n = qasm_file::put_back(&mut out, bytes);
-    filter::print(&out, n)
+    program_filter::print(&out, n)
 }
 
 fn output_buffer() -> [u8; 65537]

@@ -1,5 +1,5 @@
 -- `bowujita_has_image` meets its contract. Assumes nothing.
-use Rattle.calls.specs.Session.{imageOf}
+use Rattle.session_model.specs.Session.{imageOf}
 use Rattle.bowujita.specs.Calls.{asked, same-image}
 use borrow.Author.Needs.{needs}
 use Rattle.bowujita.proofs.bowujita_has_image.Statement.{statement}

@@ -1,5 +1,5 @@
 -- `bowujita_has_solution` meets its contract. Assumes nothing.
-use Rattle.calls.specs.Session.{plain}
+use Rattle.session_model.specs.Session.{plain}
 use Rattle.bowujita.specs.Calls.{asked}
 use borrow.Author.Needs.{needs}
 use Rattle.bowujita.proofs.bowujita_has_solution.Statement.{statement}

@@ -1,5 +1,5 @@
 -- `bowujita_shortest` meets its contract. Assumes nothing.
-use Rattle.calls.specs.Session.{shortest}
+use Rattle.session_model.specs.Session.{shortest}
 use Rattle.bowujita.specs.Calls.{asked}
 use borrow.Author.Needs.{needs}
 use Rattle.bowujita.proofs.bowujita_shortest.Statement.{statement}

@@ -2,7 +2,7 @@
 use mathlib.Core.Path.{sym, subst}
 use lib.ListN.{length}
 use lib.Seq.{length-take-le}
-use Rattle.input_lines.specs.Fed.{Fits}
+use Rattle.text_input_lines.specs.Fed.{Fits}
 use borrow.Author.Needs.{needs}
 use Rattle.console.proofs.answer.Statement.{statement}
 use Rattle.console.proofs.answer.Tie as tie

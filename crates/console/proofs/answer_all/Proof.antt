@@ -4,8 +4,8 @@ use mathlib.Core.List.{[]}
 use Prim.Native.Nat.{ℕ, _+_, _-_, _≤_}
 use native.Mathlib.Omega.{arith}
 use lib.ListN.{length}
-use Rattle.input_lines.specs.Gathered.{begun}
-use Rattle.input_lines.specs.Fed.{Feeding, feed, step-fits, step-length}
+use Rattle.text_input_lines.specs.Gathered.{begun}
+use Rattle.text_input_lines.specs.Fed.{Feeding, feed, step-fits, step-length}
 use borrow.Author.Needs.{needs}
 use Rattle.console.proofs.answer_all.Statement.{statement}
 use Rattle.console.proofs.answer_all.Tie as tie

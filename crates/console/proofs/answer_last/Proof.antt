@@ -1,6 +1,6 @@
 -- `answer_last` is safe: a line that is said stands within the slice. Assumes nothing.
 use lib.ListN.{length}
-use Rattle.input_lines.specs.Fed.{last-fits}
+use Rattle.text_input_lines.specs.Fed.{last-fits}
 use borrow.Author.Needs.{needs}
 use Rattle.console.proofs.answer_last.Statement.{statement}
 use Rattle.console.proofs.answer_last.Tie as tie

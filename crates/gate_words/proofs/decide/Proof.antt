@@ -1,5 +1,5 @@
 use native.Mathlib.Omega.{arith}
-use Rattle.gate_words.specs.Laws.{decide-none, decide-second, decide-first}
+use Rattle.gate_words.specs.lemmas.Laws.{decide-none, decide-second, decide-first}
 use borrow.Author.Needs.{needs}
 use Rattle.gate_words.proofs.decide.Statement.{statement}
 use Rattle.gate_words.proofs.decide.Tie as tie

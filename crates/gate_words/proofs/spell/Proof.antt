@@ -3,10 +3,10 @@ use mathlib.Core.Bool.{true}
 use lib.Dec.{leb}
 use lib.ListN.{length}
 use borrow.Author.Tests.{leb-true}
-use Rattle.integers.specs.Booleans.{both-true}
-use Rattle.ranges.specs.Ranges.{topScale}
-use Rattle.equation.specs.Equation.{completes}
-use Rattle.gate_words.specs.Laws.{fits-is, unless, given, fails, holds, solves, out-of-range, not-unitary, spells}
+use Rattle.integers.specs.lemmas.Booleans.{both-true}
+use Rattle.record_ranges.specs.Ranges.{topScale}
+use Rattle.entry_equation.specs.Equation.{completes}
+use Rattle.gate_words.specs.lemmas.Laws.{fits-is, unless, given, fails, holds, solves, out-of-range, not-unitary, spells}
 use borrow.Author.Needs.{needs}
 use Rattle.gate_words.proofs.spell.Statement.{statement}
 use Rattle.gate_words.proofs.spell.Tie as tie

@@ -1,4 +1,4 @@
-use Rattle.gate_words.specs.Laws.{hands}
+use Rattle.gate_words.specs.lemmas.Laws.{hands}
 use borrow.Author.Needs.{needs}
 use Rattle.gate_words.proofs.spell_part.Statement.{statement}
 use Rattle.gate_words.proofs.spell_part.Tie as tie

@@ -1,5 +1,5 @@
 use native.Mathlib.Omega.{arith}
-use Rattle.texts.specs.Puts.{puts-joined, puts-within}
+use Rattle.text_puts.specs.Puts.{puts-joined, puts-within}
 use Rattle.job_words.specs.Rows.{jobTexts}
 use borrow.Author.Needs.{needs}
 use Rattle.job.proofs.say.Statement.{statement}

@@ -4,7 +4,7 @@ use lib.Dec.{lit≤}
 use lib.ListN.{length}
 use borrow.Author.Tests.{lt-ltb}
 use Rattle.list_lines.specs.Lines.{tooLongLine}
-use Rattle.texts.specs.Puts.{one}
+use Rattle.text_puts.specs.Puts.{one}
 use Rattle.job_words.specs.Laws.{job-records, job-long, job-bad}
 use borrow.Author.Needs.{needs}
 use Rattle.job_words.proofs.put.Statement.{statement}

@@ -7,7 +7,7 @@ use lib.ListN.{length, drop}
 use native.Mathlib.Nat.{le-of-lt}
 use borrow.Author.Needs.{needs}
 use Rattle.text_scan.specs.Run.{isByte, lineEnd, runEnd-within}
-use Rattle.forms.specs.Laid.{laid, laid-same}
+use Rattle.record_forms.specs.Laid.{laid, laid-same}
 use Rattle.job_words.specs.Rows.{rowsOf, bytesOf}
 use Rattle.job_words.specs.Laws.{laid-rest, laid-row}
 use Rattle.job_words.proofs.put_records.Statement.{statement}

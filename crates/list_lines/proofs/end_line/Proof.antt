@@ -8,7 +8,7 @@ use mir.Val.{Fits}
 use lib.Seq.{length-take-le}
 use Rattle.text.specs.Append.{appended, append-more, marked}
 use Rattle.text.specs.Decimal.{decimal}
-use Rattle.words.specs.Meaning.{sizeOf}
+use Rattle.integers_wide.specs.Meaning.{sizeOf}
 use Rattle.text.proofs.Lengths.{decimal-length}
 use Rattle.text.proofs.Words.{value-below}
 use Rattle.list_lines.specs.Lines.{endLine, countText}

@@ -11,7 +11,7 @@ use lib.Seq.{length-take-le}
 use Rattle.ring.specs.declared.Point.{Point}
 use Rattle.text.specs.Append.{Appended}
 use Rattle.list_lines.specs.Lines.{headText, linesOf}
-use Rattle.list_lines.specs.More.{lines-none, lines-next}
+use Rattle.list_lines.specs.lemmas.More.{lines-none, lines-next}
 use Rattle.list_lines.proofs.put_points.Statement.{statement}
 use Rattle.list_lines.proofs.put_points.Tie as tie
 

@@ -4,7 +4,7 @@ use mathlib.Core.Path.{_≡_, sym, subst, ap}
 use mathlib.Core.List.{List, [], _∷_, _++_}
 use native.Mathlib.Omega.{arith}
 use lib.Seq.{length-take-le}
-use Rattle.kinds.specs.Kinds.{number}
+use Rattle.record_kinds.specs.Kinds.{number}
 use Rattle.text.specs.Append.{Appended, appended, append-more}
 use Rattle.text.specs.Decimal.{decimal}
 use Rattle.list_lines.specs.Lines.{refusalLine, countText}

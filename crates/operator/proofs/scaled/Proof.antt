@@ -5,8 +5,8 @@ use mir.Syntax.{w16, w64}
 use mir.Val.{SFits}
 use mir.Facts.{toZ-ofZ, sfits-widen}
 use borrow.Author.Needs.{needs}
-use Rattle.integers.specs.Size.{size→fits}
-use Rattle.operator.specs.Adjugate.{unit-size}
+use Rattle.integers.specs.lemmas.Size.{size→fits}
+use Rattle.operator.specs.lemmas.Adjugate.{unit-size}
 use Rattle.operator.proofs.scaled.Statement.{statement}
 use Rattle.operator.proofs.scaled.Tie as tie
 

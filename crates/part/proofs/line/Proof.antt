@@ -4,9 +4,9 @@ use mathlib.Core.List.{List}
 use Prim.Native.Nat.{ℕ}
 use native.Mathlib.Omega.{arith}
 use lib.Seq.{length-take-le}
-use Rattle.transfer.specs.Sending.{Sent}
+use Rattle.system_transfer.specs.Sending.{Sent}
 use Rattle.text.specs.Append.{appended-within}
-use Rattle.output.specs.Pieces.{stateOf, pieceOf}
+use Rattle.list_output.specs.Pieces.{stateOf, pieceOf}
 use borrow.Author.Needs.{needs}
 use Rattle.part.proofs.line.Statement.{statement}
 use Rattle.part.proofs.line.Tie as tie

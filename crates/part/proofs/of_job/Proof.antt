@@ -4,7 +4,7 @@ use mathlib.Core.Bool.{true}
 use borrow.Author.Tests.{not-true, not-false}
 use mir.Facts.{toZ-ofZ}
 use Rattle.ranks.specs.Rest.{isNil}
-use Rattle.lists.specs.Walk.{full}
+use Rattle.walk_list.specs.Walk.{full}
 use Rattle.part.specs.Answered.{printed-empty}
 use borrow.Author.Needs.{needs}
 use Rattle.part.proofs.of_job.Statement.{statement}

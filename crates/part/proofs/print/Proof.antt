@@ -1,7 +1,7 @@
 -- `print` meets its contract. Assumes nothing.
 use mathlib.Core.Path.{sym, ap, _∙_}
 use mir.Facts.{toZ-ofZ}
-use Rattle.input.specs.Load.{loadedOf}
+use Rattle.list_input.specs.Load.{loadedOf}
 use Rattle.part.specs.Answered.{long-part, refusal-part, ready-part}
 use borrow.Author.Needs.{needs}
 use Rattle.part.proofs.print.Statement.{statement}

@@ -1,7 +1,7 @@
 use native.Mathlib.Omega.{arith}
-use Rattle.texts.specs.Puts.{puts-joined, puts-within}
+use Rattle.text_puts.specs.Puts.{puts-joined, puts-within}
 use lib.ListN.{length}
-use Rattle.input.specs.Load.{loadOf}
+use Rattle.list_input.specs.Load.{loadOf}
 use Rattle.pattern_text.specs.Pattern.{textsFor}
 use borrow.Author.Needs.{needs}
 use Rattle.pattern.proofs.say.Statement.{statement}

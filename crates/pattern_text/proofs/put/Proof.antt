@@ -3,10 +3,10 @@ use Prim.Native.Nat.{_<_, _^_}
 use lib.Dec.{lit≤}
 use Rattle.pattern_text.proofs.Sizes.{refusal-size}
 use lib.ListN.{length}
-use Rattle.kinds.specs.Kinds.{number}
+use Rattle.record_kinds.specs.Kinds.{number}
 use Rattle.list_lines.specs.Lines.{refusalLine, tooLongLine}
-use Rattle.input.specs.Load.{loadOf}
-use Rattle.texts.specs.Puts.{one, retext}
+use Rattle.list_input.specs.Load.{loadOf}
+use Rattle.text_puts.specs.Puts.{one, retext}
 use Rattle.pattern_text.specs.Pattern.{loaded-texts}
 use borrow.Author.Needs.{needs}
 use Rattle.pattern_text.proofs.put.Statement.{statement}

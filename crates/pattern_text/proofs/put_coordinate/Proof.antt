@@ -1,7 +1,7 @@
 use Rattle.text.proofs.Lengths.{signed-length}
 use mathlib.Core.List.{[], _∷_}
 use Rattle.text.specs.Decimal.{signedDecimal}
-use Rattle.texts.specs.Puts.{one, join}
+use Rattle.text_puts.specs.Puts.{one, join}
 use native.Mathlib.Nat.{lt-of-lt-of-le}
 use mir.Syntax.{w32, w64}
 use mir.Val.{SFits}

@@ -1,6 +1,6 @@
 use lib.Dec.{lit≤}
 use mathlib.Core.List.{[], _∷_}
-use Rattle.texts.specs.Puts.{one}
+use Rattle.text_puts.specs.Puts.{one}
 use borrow.Author.Needs.{needs}
 use Rattle.pattern_text.proofs.put_name.Statement.{statement}
 use Rattle.pattern_text.proofs.put_name.Tie as tie

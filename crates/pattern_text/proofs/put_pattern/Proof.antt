@@ -1,4 +1,4 @@
-use Rattle.texts.specs.Puts.{join}
+use Rattle.text_puts.specs.Puts.{join}
 use borrow.Author.Needs.{needs}
 use Rattle.pattern_text.proofs.put_pattern.Statement.{statement}
 use Rattle.pattern_text.proofs.put_pattern.Tie as tie

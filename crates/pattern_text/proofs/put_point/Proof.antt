@@ -5,7 +5,7 @@ use mathlib.Core.List.{[], _∷_}
 use mir.Syntax.{w32}
 use mir.Val.{SFits}
 use mir.Facts.{toZ-ofZ}
-use Rattle.texts.specs.Puts.{one, join, weaken}
+use Rattle.text_puts.specs.Puts.{one, join, weaken}
 use borrow.Author.Needs.{needs}
 use Rattle.pattern_text.proofs.put_point.Statement.{statement}
 use Rattle.pattern_text.proofs.put_point.Tie as tie

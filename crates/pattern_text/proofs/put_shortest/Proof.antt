@@ -1,8 +1,8 @@
 use native.Mathlib.Omega.{arith}
 use Rattle.pattern_text.proofs.Sizes.{refusal-size}
-use Rattle.kinds.specs.Kinds.{number}
+use Rattle.record_kinds.specs.Kinds.{number}
 use Rattle.list_lines.specs.Lines.{refusalLine}
-use Rattle.texts.specs.Puts.{one, none, retext}
+use Rattle.text_puts.specs.Puts.{one, none, retext}
 use Rattle.pattern_text.specs.Pattern.{shortest-texts}
 use borrow.Author.Needs.{needs}
 use Rattle.pattern_text.proofs.put_shortest.Statement.{statement}

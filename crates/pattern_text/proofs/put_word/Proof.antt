@@ -2,9 +2,9 @@ use lib.Dec.{lit≤}
 use Rattle.pattern_text.proofs.Sizes.{word-size}
 use mathlib.Core.Path.{sym, _∙_}
 use mathlib.Core.List.{[], _∷_}
-use Rattle.gate_words.specs.Laws.{part-is}
-use Rattle.texts.specs.Puts.{one, join}
-use Rattle.texts.specs.Texts.{shown, shown-size}
+use Rattle.gate_words.specs.lemmas.Laws.{part-is}
+use Rattle.text_puts.specs.Puts.{one, join}
+use Rattle.text_puts.specs.Texts.{shown, shown-size}
 use borrow.Author.Needs.{needs}
 use Rattle.pattern_text.proofs.put_word.Statement.{statement}
 use Rattle.pattern_text.proofs.put_word.Tie as tie

@@ -5,8 +5,8 @@ use lib.ListN.{length}
 use lib.Seq.{length-take-le}
 use borrow.Author.Tests.{lt-ltb, le-ltb}
 use Rattle.list_lines.specs.Lines.{tooLongLine}
-use Rattle.texts.specs.Puts.{one}
-use Rattle.qasm_file.specs.Laws.{take-most}
+use Rattle.text_puts.specs.Puts.{one}
+use Rattle.qasm_file.specs.lemmas.Laws.{take-most}
 use borrow.Author.Needs.{needs}
 use Rattle.qasm_file.proofs.put_file.Statement.{statement}
 use Rattle.qasm_file.proofs.put_file.Tie as tie

@@ -1,5 +1,5 @@
 use lib.Dec.{lit≤}
-use Rattle.texts.specs.Puts.{one, join}
+use Rattle.text_puts.specs.Puts.{one, join}
 use Rattle.qasm_file.specs.File.{header}
 use borrow.Author.Needs.{needs}
 use Rattle.qasm_file.proofs.put_lines.Statement.{statement}

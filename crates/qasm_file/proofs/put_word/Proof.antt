@@ -1,4 +1,4 @@
-use Rattle.qasm_file.specs.Laws.{take-rest}
+use Rattle.qasm_file.specs.lemmas.Laws.{take-rest}
 use borrow.Author.Needs.{needs}
 use Rattle.qasm_file.proofs.put_word.Statement.{statement}
 use Rattle.qasm_file.proofs.put_word.Tie as tie

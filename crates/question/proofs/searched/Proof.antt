@@ -2,7 +2,7 @@ use mathlib.Core.Path.{sym, _∙_}
 use borrow.Author.Needs.{needs}
 use borrow.Author.Tests.{not-true, not-false}
 use Rattle.question.specs.Search.{refused-none}
-use Rattle.question.specs.Void.{void-first, void-second}
+use Rattle.question.specs.lemmas.Void.{void-first, void-second}
 use Rattle.question.proofs.searched.Statement.{statement}
 use Rattle.question.proofs.searched.Tie as tie
 

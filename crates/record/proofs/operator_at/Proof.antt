@@ -1,6 +1,6 @@
 use mathlib.Core.Path.{_∙_}
 use mir.Syntax.{w16}
-use Rattle.integers.specs.Size.{back}
+use Rattle.integers.specs.lemmas.Size.{back}
 use Rattle.record.specs.Record.{operatorOf}
 use borrow.Author.Needs.{needs}
 use Rattle.record.proofs.operator_at.Statement.{statement}

@@ -7,9 +7,9 @@ use lib.ListN.{length, take, drop, length-drop}
 use lib.Seq.{take-all}
 use borrow.Author.Needs.{needs}
 use borrow.Author.Tests.{ltb-false}
-use Rattle.kinds.specs.declared.Kind.{Kind}
-use Rattle.kinds.specs.declared.Admission.{Admission}
-use Rattle.kinds.specs.Kinds.{isKnown, inTurn, bodyLength, admissionOf, whole-long}
+use Rattle.record_kinds.specs.declared.Kind.{Kind}
+use Rattle.record_kinds.specs.declared.Admission.{Admission}
+use Rattle.record_kinds.specs.Kinds.{isKnown, inTurn, bodyLength, admissionOf, whole-long}
 use Rattle.record.specs.Record.{readingOf, reads, bodyOf, admitted, reading-none, reading-admitted}
 use Rattle.record.proofs.read.Statement.{statement}
 use Rattle.record.proofs.read.Tie as tie

@@ -7,11 +7,11 @@ use lib.ListN.{length, take, drop, length-drop}
 use lib.Seq.{take-all}
 use borrow.Author.Tests.{not-true, not-false}
 use borrow.Author.Needs.{needs}
-use Rattle.kinds.specs.Kinds.{bodyLength}
-use Rattle.forms.specs.Forms.{fieldsOf, numbersAt}
-use Rattle.texts.specs.Puts.{puts}
+use Rattle.record_kinds.specs.Kinds.{bodyLength}
+use Rattle.record_forms.specs.Forms.{fieldsOf, numbersAt}
+use Rattle.text_puts.specs.Puts.{puts}
 use Rattle.record_text.specs.Texts.{textsOf, puts-same, texts-more, texts-none}
-use Rattle.record_text.specs.Sizes.{shown-size}
+use Rattle.record_text.specs.lemmas.Sizes.{shown-size}
 use Rattle.record_text.specs.Records.{recordsIn, shownTexts, whole-long, records-end, records-stop, records-more}
 use Rattle.record_text.proofs.put.Statement.{statement}
 use Rattle.record_text.proofs.put.Tie as tie

@@ -2,7 +2,7 @@ use native.Mathlib.Omega.{arith}
 use mathlib.Core.Path.{sym}
 use mathlib.Core.List.{[], _∷_}
 use lib.Seq.{length-take-le}
-use Rattle.forms.specs.Forms.{fieldsOf, numbersAt}
+use Rattle.record_forms.specs.Forms.{fieldsOf, numbersAt}
 use Rattle.record_text.specs.Texts.{nameTexts, restTexts, put-one, put-more}
 use borrow.Author.Needs.{needs}
 use Rattle.record_text.proofs.put_line.Statement.{statement}

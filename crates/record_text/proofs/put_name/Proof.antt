@@ -1,6 +1,6 @@
 use mathlib.Core.Path.{refl}
-use Rattle.kinds.specs.declared.Kind.the-variants as K
-use Rattle.texts.specs.Puts.{puts}
+use Rattle.record_kinds.specs.declared.Kind.the-variants as K
+use Rattle.text_puts.specs.Puts.{puts}
 use Rattle.record_text.specs.Lines.{nameOf}
 use Rattle.record_text.specs.Texts.{put-one}
 use borrow.Author.Needs.{needs}

@@ -9,7 +9,7 @@ use mir.Val.{SFits}
 use mir.Facts.{toZ-ofZ}
 use borrow.Author.Needs.{needs}
 use Rattle.text.specs.Decimal.{signedDecimal}
-use Rattle.texts.specs.Puts.{puts}
+use Rattle.text_puts.specs.Puts.{puts}
 use Rattle.record_text.specs.Texts.{numbersTexts, put-one, puts-same, numbers-more, numbers-end}
 use Rattle.record_text.proofs.put_numbers.Statement.{statement}
 use Rattle.record_text.proofs.put_numbers.Tie as tie

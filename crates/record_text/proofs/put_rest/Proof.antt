@@ -1,5 +1,5 @@
 use mathlib.Core.Path.{refl}
-use Rattle.texts.specs.Puts.{puts}
+use Rattle.text_puts.specs.Puts.{puts}
 use borrow.Author.Needs.{needs}
 use Rattle.record_text.proofs.put_rest.Statement.{statement}
 use Rattle.record_text.proofs.put_rest.Tie as tie

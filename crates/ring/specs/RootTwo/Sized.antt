@@ -7,7 +7,7 @@ use native.Mathlib.Nat.{eq-zero-or-pos}
 use native.Mathlib.Omega.{arith}
 use lib.IntN.{ℤ, pos, natAbs, _+ℤ_, _-ℤ_, _*ℤ_}
 use lib.Pow.{pow-mono}
-use Rattle.integers.specs.Size.{size-+, size-neg, size-*≤}
+use Rattle.integers.specs.lemmas.Size.{size-+, size-neg, size-*≤}
 use Rattle.ring.specs.declared.RootTwo.{RootTwo}
 use Rattle.ring.specs.RootTwo.{_⊞_, _⊟_, _⊠_, neg, conj, num, parts, sum-parts, product-parts, neg-parts, conj-parts, num-parts, by-parts, poly√}
 use Rattle.ring.specs.RootTwo.Power.{√2^, power-even, power-odd}

@@ -1,5 +1,5 @@
 use mathlib.Core.Path.{refl}
-use Rattle.stages.specs.Session.{steps}
+use Rattle.session_stages.specs.Session.{steps}
 use borrow.Author.Needs.{needs}
 use Rattle.session.proofs.has_image.Statement.{statement}
 use Rattle.session.proofs.has_image.Tie as tie

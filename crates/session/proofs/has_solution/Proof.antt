@@ -1,6 +1,6 @@
-use Rattle.lists.specs.Walk.{full}
+use Rattle.walk_list.specs.Walk.{full}
 use mathlib.Core.Path.{refl}
-use Rattle.stages.specs.Session.{steps}
+use Rattle.session_stages.specs.Session.{steps}
 use borrow.Author.Needs.{needs}
 use Rattle.session.proofs.has_solution.Statement.{statement}
 use Rattle.session.proofs.has_solution.Tie as tie

@@ -1,7 +1,7 @@
 use denote.Ref.{now}
 use mathlib.Core.Path.{sym, ap, _∙_}
 use Rattle.record.specs.Record.{readingOf}
-use Rattle.stages.specs.Session.{steps, outcomeOf, refused-outcome, reading-outcome}
+use Rattle.session_stages.specs.Session.{steps, outcomeOf, refused-outcome, reading-outcome}
 use borrow.Author.Needs.{needs}
 use Rattle.session.proofs.Machine.{left-fits}
 use Rattle.session.proofs.read.Statement.{statement}

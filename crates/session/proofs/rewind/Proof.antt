@@ -1,5 +1,5 @@
 use mathlib.Core.Path.{refl, _∙_}
-use Rattle.stages.specs.Session.{steps}
+use Rattle.session_stages.specs.Session.{steps}
 use borrow.Author.Needs.{needs}
 use Rattle.session.proofs.Machine.{left-fits}
 use Rattle.session.proofs.rewind.Statement.{statement}

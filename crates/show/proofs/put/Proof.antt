@@ -2,8 +2,8 @@ use native.Mathlib.Omega.{arith}
 use mathlib.Core.Path.{sym, ap, _∙_}
 use lib.Dec.{lit≤}
 use Rattle.list_lines.specs.Lines.{tooLongLine}
-use Rattle.texts.specs.Puts.{one, weaken}
-use Rattle.input.specs.Load.{loadedOf}
+use Rattle.text_puts.specs.Puts.{one, weaken}
+use Rattle.list_input.specs.Load.{loadedOf}
 use Rattle.show.specs.Back.{ready-short}
 use borrow.Author.Needs.{needs}
 use Rattle.show.proofs.put.Statement.{statement}

@@ -1,6 +1,6 @@
 use native.Mathlib.Omega.{arith}
-use Rattle.texts.specs.Puts.{puts-joined, puts-within}
-use Rattle.input.specs.Load.{loadOf}
+use Rattle.text_puts.specs.Puts.{puts-joined, puts-within}
+use Rattle.list_input.specs.Load.{loadOf}
 use Rattle.show.specs.Show.{textsFor}
 use borrow.Author.Needs.{needs}
 use Rattle.show.proofs.say.Statement.{statement}

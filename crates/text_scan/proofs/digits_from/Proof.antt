@@ -3,7 +3,7 @@ use Prim.Native.Nat.{_+_, _-_, _^_}
 use mathlib.Core.Path.{refl}
 use native.Mathlib.Omega.{arith}
 use lib.ListN.{length, getD}
-use Rattle.words.specs.Meaning.{sizeOf}
+use Rattle.integers_wide.specs.Meaning.{sizeOf}
 use Rattle.text_scan.specs.Number.{isDigit}
 use Rattle.text_scan.proofs.Runs.{run-at-end, run-none}
 use Rattle.text_scan.proofs.Saturation.{Counted, counted-none, counted-more, isDigit-below, isDigit-above}

@@ -6,8 +6,8 @@ use mir.Syntax.{w64}
 use mir.Val.{Fits}
 use native.Mathlib.Omega.{arith}
 use borrow.Author.Needs.{needs}
-use Rattle.words.specs.declared.Size.{Size}
-use Rattle.words.specs.Meaning.{sizeOf, word}
+use Rattle.integers_wide.specs.declared.Size.{Size}
+use Rattle.integers_wide.specs.Meaning.{sizeOf, word}
 use Rattle.text_scan.proofs.Saturation.{both-capped}
 use Rattle.text_scan.proofs.Words.{far, carries, ten-plain, ten-carry}
 use Rattle.text_scan.proofs.grown.Statement.{statement}

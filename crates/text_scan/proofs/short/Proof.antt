@@ -3,7 +3,7 @@ use Prim.Native.Nat.{ℕ, _^_}
 use mathlib.Core.Path.{sym, ap, _∙_}
 use lib.Dec.{lit≤}
 use borrow.Author.Needs.{needs}
-use Rattle.words.specs.Meaning.{sizeOf, word}
+use Rattle.integers_wide.specs.Meaning.{sizeOf, word}
 use Rattle.text_scan.specs.Number.{spelling, fitted}
 use Rattle.text_scan.proofs.Saturation.{fitted-big}
 use Rattle.text_scan.proofs.Words.{above-word, lower-only}

@@ -8,9 +8,9 @@ use mir.Val.{Fits}
 use native.Mathlib.Omega.{arith}
 use borrow.Author.Needs.{needs}
 use borrow.Author.Tests.{le-ltb, not-true, not-false}
-use Rattle.words.specs.declared.Size.{Size}
-use Rattle.words.specs.Meaning.{sizeOf, meaning, word}
-use Rattle.words.specs.Laws.{upper-less}
+use Rattle.integers_wide.specs.declared.Size.{Size}
+use Rattle.integers_wide.specs.Meaning.{sizeOf, meaning, word}
+use Rattle.integers_wide.specs.lemmas.Laws.{upper-less}
 use Rattle.text_scan.specs.Number.{value, fits, fitted}
 use Rattle.text_scan.proofs.Saturation.{fits-small, fitted-big}
 use Rattle.text_scan.proofs.Words.{reaches, passes, exactly}

@@ -1,6 +1,6 @@
 use mathlib.Core.Path.{ap, _∙_}
 use borrow.Author.Needs.{needs}
-use Rattle.takes.specs.Session as Model
+use Rattle.tray_model.specs.Session as Model
 use Rattle.tray.specs.Session.{world, meaning}
 use Rattle.tray.proofs.take.Statement.{statement}
 use Rattle.tray.proofs.take.Tie as tie

@@ -5,10 +5,10 @@ use Rattle.region.specs.Selection.{unsolved}
 use Rattle.ranks.specs.Rest.{leftAt}
 use Rattle.ranks.specs.Rank.{top}
 use Rattle.cuts.specs.Digits.{span}
-use Rattle.lists.specs.Walk.{listedAt, spotOf}
+use Rattle.walk_list.specs.Walk.{listedAt, spotOf}
 use Rattle.walk.specs.declared.Prepared.the-variants as P
 use Rattle.walk.specs.Prepared.{jobOf, Prepares}
-use Rattle.walk.specs.Hand.{none-at, gave-none}
+use Rattle.walk.specs.lemmas.Hand.{none-at, gave-none}
 use Rattle.walk.proofs.hand_out_of.Statement.{statement}
 use Rattle.walk.proofs.hand_out_of.Tie as tie
 

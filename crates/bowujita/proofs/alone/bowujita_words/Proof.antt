@@ -1,4 +1,4 @@
-use Rattle.numbers.specs.Numbers.{bit-set}
+use Rattle.library_numbers.specs.Numbers.{bit-set}
 use borrow.Author.Needs.{needs}
 use Rattle.bowujita.proofs.alone.bowujita_words.Statement.{statement}
 use Rattle.bowujita.proofs.alone.bowujita_words.Tie as tie

@@ -3,7 +3,7 @@ use lib.IntN.{ℤ, pos, _+ℤ_, +ℤ-comm, +ℤ-idl}
 use mir.Syntax.{w32}
 use mir.Val.{SFits}
 use mir.Facts.{toZ-ofZ}
-use Rattle.integers.specs.Size.{back}
+use Rattle.integers.specs.lemmas.Size.{back}
 use Rattle.integers.specs.Parity.{half}
 use Rattle.ring.specs.Point.{ext}
 use borrow.Author.Needs.{needs}

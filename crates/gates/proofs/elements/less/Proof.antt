@@ -1,10 +1,10 @@
 use mathlib.Core.Path.{sym, _∙_, ap₂}
 use lib.IntN.{_-ℤ_}
 use mir.Syntax.{w32}
-use Rattle.integers.specs.Size.{back}
+use Rattle.integers.specs.lemmas.Size.{back}
 use Rattle.ring.specs.Point.{ext}
-use Rattle.gates.specs.Fit.{read}
-use Rattle.spelling.specs.Points.{minus-parts}
+use Rattle.gates.specs.lemmas.Fit.{read}
+use Rattle.gate_theory.specs.Points.{minus-parts}
 use borrow.Author.Needs.{needs}
 use Rattle.gates.proofs.elements.less.Statement.{statement}
 use Rattle.gates.proofs.elements.less.Tie as tie

@@ -4,7 +4,7 @@ use lib.IntN.{pos, negℤ, _-ℤ_, +ℤ-idl}
 use mir.Syntax.{w32}
 use mir.Val.{SFits}
 use mir.Facts.{toZ-ofZ}
-use Rattle.integers.specs.Size.{size--, size→fits}
+use Rattle.integers.specs.lemmas.Size.{size--, size→fits}
 use Rattle.gates.proofs.elements.negated.Statement.{statement}
 use Rattle.gates.proofs.elements.negated.Tie as tie
 

@@ -4,7 +4,7 @@ use mir.Syntax.{w32}
 use mir.Val.{SFits}
 use mir.Facts.{toZ-ofZ}
 use borrow.Author.Needs.{needs}
-use Rattle.integers.specs.Size.{back}
+use Rattle.integers.specs.lemmas.Size.{back}
 use Rattle.integers.specs.Parity.{half}
 use Rattle.ring.specs.Point.{ext}
 use Rattle.gates.proofs.elements.over_root2.Statement.{statement}

@@ -1,9 +1,9 @@
 use mathlib.Core.Path.{sym, _∙_, ap₂}
 use lib.IntN.{_+ℤ_}
 use mir.Syntax.{w32}
-use Rattle.integers.specs.Size.{back}
+use Rattle.integers.specs.lemmas.Size.{back}
 use Rattle.ring.specs.Point.{ext, sum-parts}
-use Rattle.gates.specs.Fit.{read}
+use Rattle.gates.specs.lemmas.Fit.{read}
 use borrow.Author.Needs.{needs}
 use Rattle.gates.proofs.elements.plus.Statement.{statement}
 use Rattle.gates.proofs.elements.plus.Tie as tie

@@ -3,7 +3,7 @@ use lib.IntN.{_-ℤ_}
 use mir.Syntax.{w32}
 use mir.Val.{SFits}
 use borrow.Author.Needs.{needs}
-use Rattle.integers.specs.Size.{size--, size→fits}
+use Rattle.integers.specs.lemmas.Size.{size--, size→fits}
 use Rattle.gates.proofs.elements.sub.Statement.{statement}
 use Rattle.gates.proofs.elements.sub.Tie as tie
 

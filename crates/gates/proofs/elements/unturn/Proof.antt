@@ -2,7 +2,7 @@ use mathlib.Core.Path.{sym, _∙_, ap}
 use mathlib.Core.Bool.{cond}
 use native.Mathlib.Omega.{arith}
 use lib.IntN.{natAbs}
-use Rattle.spelling.specs.Points.{back}
+use Rattle.gate_theory.specs.Points.{back}
 use borrow.Author.Needs.{needs}
 use Rattle.gates.proofs.elements.unturn.Statement.{statement}
 use Rattle.gates.proofs.elements.unturn.Tie as tie

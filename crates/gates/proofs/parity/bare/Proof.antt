@@ -1,6 +1,6 @@
 use mathlib.Core.Path.{sym, _∙_, ap}
-use Rattle.spelling.specs.Bits.{uniform, none}
-use Rattle.gates.specs.Asked.{bare-odd, bare-not}
+use Rattle.gate_theory.specs.Bits.{uniform, none}
+use Rattle.gates.specs.lemmas.Asked.{bare-odd, bare-not}
 use borrow.Author.Needs.{needs}
 use Rattle.gates.proofs.parity.bare.Statement.{statement}
 use Rattle.gates.proofs.parity.bare.Tie as tie

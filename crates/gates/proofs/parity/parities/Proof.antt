@@ -2,8 +2,8 @@ use mathlib.Core.Path.{_∙_, ap}
 use mir.Syntax.{w32}
 use mir.Val.{SFits}
 use mir.Facts.{toZ-ofZ}
-use Rattle.spelling.specs.Odd.{odd?}
-use Rattle.spelling.specs.Parities.{bits}
+use Rattle.gate_theory.specs.Odd.{odd?}
+use Rattle.gate_theory.specs.Parities.{bits}
 use borrow.Author.Needs.{needs}
 use Rattle.gates.proofs.parity.parities.Statement.{statement}
 use Rattle.gates.proofs.parity.parities.Tie as tie

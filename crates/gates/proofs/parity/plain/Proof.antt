@@ -1,6 +1,6 @@
 use mathlib.Core.Path.{sym, _∙_, ap}
-use Rattle.spelling.specs.Bits.{rest, uniform}
-use Rattle.gates.specs.Asked.{plain-odd, plain-not}
+use Rattle.gate_theory.specs.Bits.{rest, uniform}
+use Rattle.gates.specs.lemmas.Asked.{plain-odd, plain-not}
 use borrow.Author.Needs.{needs}
 use Rattle.gates.proofs.parity.plain.Statement.{statement}
 use Rattle.gates.proofs.parity.plain.Tie as tie

@@ -1,7 +1,7 @@
 use mathlib.Core.Path.{subst}
 use native.Mathlib.Omega.{arith}
 use borrow.Author.Needs.{needs}
-use Rattle.spelling.specs.Word.{syllable}
+use Rattle.gate_theory.specs.Word.{syllable}
 use Rattle.gates.specs.Written.{Adds}
 use Rattle.gates.specs.Going.{steps}
 use Rattle.gates.specs.Start.{Left, left-all, left-more, left-none}

@@ -1,5 +1,5 @@
 use mathlib.Core.Path.{_∙_, ap₂}
-use Rattle.spelling.specs.Bits.{bare}
+use Rattle.gate_theory.specs.Bits.{bare}
 use borrow.Author.Needs.{needs}
 use Rattle.gates.proofs.spell.is_bare.Statement.{statement}
 use Rattle.gates.proofs.spell.is_bare.Tie as tie

@@ -1,6 +1,6 @@
 use mathlib.Core.Path.{_∙_, ap₂}
 use native.Mathlib.Omega.{arith}
-use Rattle.spelling.specs.Bits.{plain}
+use Rattle.gate_theory.specs.Bits.{plain}
 use Rattle.gates.specs.Going.{plain-none, plain-some}
 use borrow.Author.Needs.{needs}
 use Rattle.gates.proofs.spell.is_plain.Statement.{statement}

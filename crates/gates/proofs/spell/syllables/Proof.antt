@@ -1,7 +1,7 @@
 use mathlib.Core.Path.{sym, _∙_, ap}
 use native.Mathlib.Omega.{arith}
-use Rattle.spelling.specs.Bits.{odd}
-use Rattle.spelling.specs.Parities.{parities}
+use Rattle.gate_theory.specs.Bits.{odd}
+use Rattle.gate_theory.specs.Parities.{parities}
 use Rattle.gates.specs.Going.{syllables-none, syllables-odd, syllables-side, side-two}
 use borrow.Author.Needs.{needs}
 use Rattle.gates.proofs.spell.syllables.Statement.{statement}

@@ -1,7 +1,7 @@
 use mathlib.Core.Path.{refl}
 use native.Mathlib.Omega.{arith}
-use Rattle.spelling.specs.Length.{narrow}
-use Rattle.gates.specs.Fit.{state}
+use Rattle.gate_theory.specs.lemmas.Length.{narrow}
+use Rattle.gates.specs.lemmas.Fit.{state}
 use borrow.Author.Needs.{needs}
 use Rattle.gates.proofs.spell.without_t.Statement.{statement}
 use Rattle.gates.proofs.spell.without_t.Tie as tie

@@ -5,13 +5,13 @@ use native.Mathlib.Omega.{arith}
 use lib.IntN.{natAbs}
 use Rattle.ring.specs.Point.{_+ω_, _-ω_}
 use Rattle.ring.specs.Point.Divide.{halves}
-use Rattle.spelling.specs.Bits.{none, bare}
-use Rattle.spelling.specs.Points.{back, halved}
-use Rattle.spelling.specs.Parities.{parities}
-use Rattle.spelling.specs.declared.State.{State}
-use Rattle.spelling.specs.State.{Narrow, isBare, unturn, plus, less}
-use Rattle.spelling.specs.Step.{shift, next-even, next-not}
-use Rattle.gates.specs.Fit.{narrow-unturn, less-halved, less-halves, state, shift-small}
+use Rattle.gate_theory.specs.Bits.{none, bare}
+use Rattle.gate_theory.specs.Points.{back, halved}
+use Rattle.gate_theory.specs.Parities.{parities}
+use Rattle.gate_theory.specs.declared.State.{State}
+use Rattle.gate_theory.specs.State.{Narrow, isBare, unturn, plus, less}
+use Rattle.gate_theory.specs.lemmas.Step.{shift, next-even, next-not}
+use Rattle.gates.specs.lemmas.Fit.{narrow-unturn, less-halved, less-halves, state, shift-small}
 use borrow.Author.Needs.{needs}
 use Rattle.gates.proofs.states.next.Statement.{statement}
 use Rattle.gates.proofs.states.next.Tie as tie

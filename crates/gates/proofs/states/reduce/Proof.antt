@@ -2,7 +2,7 @@ use mathlib.Core.Path.{_≡_, refl, sym, _∙_, ap}
 use Prim.Native.Nat.{ℕ, _-_}
 use native.Mathlib.Omega.{arith}
 use borrow.Author.Needs.{needs}
-use Rattle.spelling.specs.Word.{reduced, reduced-zero, reduced-whole, reduced-not}
+use Rattle.gate_theory.specs.Word.{reduced, reduced-zero, reduced-whole, reduced-not}
 use Rattle.gates.proofs.states.reduce.Statement.{statement}
 use Rattle.gates.proofs.states.reduce.Tie as tie
 

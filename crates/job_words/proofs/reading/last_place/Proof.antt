@@ -5,7 +5,7 @@ use mathlib.Core.List.{List}
 use mathlib.Core.Bool.{false}
 use lib.ListN.{length}
 use Rattle.text_scan.specs.Run.{isByte, spacesFrom, wordEnd, runEnd-within}
-use Rattle.wording.specs.Names.{wordsOf}
+use Rattle.text_words.specs.Names.{wordsOf}
 use Rattle.job_words.specs.Laws.{last-not, last-word}
 use borrow.Author.Needs.{needs}
 use Rattle.job_words.proofs.reading.last_place.Statement.{statement}

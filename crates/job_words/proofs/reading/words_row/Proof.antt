@@ -6,7 +6,7 @@ use mathlib.Core.Bool.{false}
 use lib.ListN.{length, take, drop}
 use native.Mathlib.Nat.{le-of-lt}
 use Rattle.text_scan.specs.Run.{isByte, spacesFrom, wordEnd, runEnd-within}
-use Rattle.wording.specs.Names.{placeOf, wordsOf}
+use Rattle.text_words.specs.Names.{placeOf, wordsOf}
 use Rattle.job_words.specs.Rows.{names, named}
 use Rattle.job_words.specs.Laws.{means-is, row-none, row-some}
 use borrow.Author.Needs.{needs}

@@ -6,10 +6,10 @@ use mir.Syntax.{w16, w32}
 use mir.Val.{SFits, toZ, ofZ}
 use mir.Facts.{toZ-ofZ}
 use Rattle.integers.specs.Parity.{half}
-use Rattle.integers.specs.Size.{back, size→fits}
+use Rattle.integers.specs.lemmas.Size.{back, size→fits}
 use Rattle.operator.specs.Operator.{ext}
 use Rattle.operator.specs.Accepted.{Small}
-use Rattle.operator.specs.Adjugate.{adjugate-small, computed, computed-is}
+use Rattle.operator.specs.lemmas.Adjugate.{adjugate-small, computed, computed-is}
 use Rattle.operator.specs.Bounded.{Fits16}
 use borrow.Author.Needs.{needs}
 use Rattle.operator.proofs.Operator.adjugate.Statement.{statement}

@@ -6,7 +6,7 @@ use mir.Syntax.{w32, w64}
 use mir.Val.{SFits, toZ, ofZ}
 use mir.Facts.{toZ-ofZ, sfits-widen}
 use borrow.Author.Needs.{needs}
-use Rattle.integers.specs.Size.{fits→size}
+use Rattle.integers.specs.lemmas.Size.{fits→size}
 use Rattle.ring.specs.declared.Point.{Point}
 use Rattle.ring.specs.Point.{ext}
 use Rattle.operator.specs.Operator.{imageOf}

@@ -1,6 +1,6 @@
 use mathlib.Core.Path.{_∙_}
 use mir.Syntax.{w64}
-use Rattle.integers.specs.Size.{back}
+use Rattle.integers.specs.lemmas.Size.{back}
 use Rattle.ring.specs.Point.{ext}
 use Rattle.operator.specs.Operator.{imageOf}
 use Rattle.operator.specs.Bounded.{Fits16, bits16}

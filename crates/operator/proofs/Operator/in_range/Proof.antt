@@ -1,6 +1,6 @@
 use mathlib.Core.Path.{_∙_, ap₂}
 use mathlib.Core.Bool.{_&&_}
-use Rattle.ranges.specs.Ranges.{entries}
+use Rattle.record_ranges.specs.Ranges.{entries}
 use Rattle.operator.specs.Operator.{inRange}
 use Rattle.operator.specs.Bounded.{Fits16, bits16}
 use borrow.Author.Needs.{needs}

@@ -1,13 +1,13 @@
 use mathlib.Core.Path.{_≡_, refl, sym, _∙_, ap, ap₂}
 use mir.Syntax.{w64}
 use mir.Val.{toZ, ofZ}
-use Rattle.integers.specs.Size.{back}
+use Rattle.integers.specs.lemmas.Size.{back}
 use Rattle.operator.specs.declared.Check.the-variants.{Special}
 use Rattle.operator.specs.declared.Inverse.the-variants.{Operator as Undo}
 use Rattle.operator.specs.Operator.{detWhole, checkOf}
 use Rattle.operator.specs.Inverse.{times, inverseOf, inverts}
 use Rattle.operator.specs.Accepted.{accepted}
-use Rattle.operator.specs.Adjugate.{adjugate-small}
+use Rattle.operator.specs.lemmas.Adjugate.{adjugate-small}
 use borrow.Author.Needs.{needs}
 use Rattle.operator.proofs.Operator.inverse.Statement.{statement}
 use Rattle.operator.proofs.Operator.inverse.Tie as tie

@@ -7,7 +7,7 @@ use lib.IntN.{ℤ, pos, negsuc}
 use lib.Signed.{mag}
 use mir.Syntax.{w64}
 use mir.Val.{SFits, hbits, ofZ}
-use Rattle.integers.specs.Size.{size→fits}
+use Rattle.integers.specs.lemmas.Size.{size→fits}
 use Rattle.operator.specs.Operator.{equalZ, special}
 use Rattle.operator.specs.Accepted.{equal-bits}
 use borrow.Author.Needs.{needs}

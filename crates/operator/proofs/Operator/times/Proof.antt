@@ -1,7 +1,7 @@
 use mathlib.Core.Path.{_∙_}
 use mir.Syntax.{w16}
 use mir.Facts.{toZ-ofZ}
-use Rattle.integers.specs.Size.{back}
+use Rattle.integers.specs.lemmas.Size.{back}
 use Rattle.operator.specs.Operator.{ext}
 use Rattle.operator.specs.Inverse.{times}
 use Rattle.operator.specs.Bounded.{Fits16}

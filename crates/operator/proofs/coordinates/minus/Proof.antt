@@ -6,8 +6,8 @@ use mir.Val.{toZ, ofZ}
 use mir.Facts.{toZ-ofZ}
 use borrow.Author.Needs.{needs}
 use Rattle.integers.specs.Parity.{half}
-use Rattle.integers.specs.RingZ.{by-ring, polyZ}
-use Rattle.integers.specs.Size.{back}
+use Rattle.integers.specs.lemmas.RingZ.{by-ring, polyZ}
+use Rattle.integers.specs.lemmas.Size.{back}
 use Rattle.operator.specs.Bounded.{halves-bounded}
 use Rattle.operator.proofs.coordinates.minus.Statement.{statement}
 use Rattle.operator.proofs.coordinates.minus.Tie as tie

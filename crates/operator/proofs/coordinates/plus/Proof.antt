@@ -5,7 +5,7 @@ use mir.Val.{toZ, ofZ}
 use mir.Facts.{toZ-ofZ}
 use borrow.Author.Needs.{needs}
 use Rattle.integers.specs.Parity.{half}
-use Rattle.integers.specs.Size.{back}
+use Rattle.integers.specs.lemmas.Size.{back}
 use Rattle.operator.specs.Bounded.{halves-bounded}
 use Rattle.operator.proofs.coordinates.plus.Statement.{statement}
 use Rattle.operator.proofs.coordinates.plus.Tie as tie

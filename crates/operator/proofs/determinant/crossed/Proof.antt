@@ -5,7 +5,7 @@ use mir.Syntax.{w64}
 use mir.Val.{SFits}
 use mir.Facts.{sfits-widen}
 use borrow.Author.Needs.{needs}
-use Rattle.integers.specs.Size.{size-*≤, size→fits, fits→size}
+use Rattle.integers.specs.lemmas.Size.{size-*≤, size→fits, fits→size}
 use Rattle.operator.specs.Bounded.{crossed-size}
 use Rattle.operator.proofs.determinant.crossed.Statement.{statement}
 use Rattle.operator.proofs.determinant.crossed.Tie as tie

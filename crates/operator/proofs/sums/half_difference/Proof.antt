@@ -5,8 +5,8 @@ use mir.Syntax.{w32}
 use mir.Facts.{toZ-ofZ}
 use borrow.Author.Needs.{needs}
 use Rattle.integers.specs.Parity.{half}
-use Rattle.integers.specs.RingZ.{by-ring, polyZ}
-use Rattle.integers.specs.Size.{back}
+use Rattle.integers.specs.lemmas.RingZ.{by-ring, polyZ}
+use Rattle.integers.specs.lemmas.Size.{back}
 use Rattle.operator.proofs.sums.half_difference.Statement.{statement}
 use Rattle.operator.proofs.sums.half_difference.Tie as tie
 

@@ -4,7 +4,7 @@ use mir.Syntax.{w32}
 use mir.Facts.{toZ-ofZ}
 use borrow.Author.Needs.{needs}
 use Rattle.integers.specs.Parity.{half}
-use Rattle.integers.specs.Size.{back}
+use Rattle.integers.specs.lemmas.Size.{back}
 use Rattle.operator.proofs.sums.half_sum.Statement.{statement}
 use Rattle.operator.proofs.sums.half_sum.Tie as tie
 

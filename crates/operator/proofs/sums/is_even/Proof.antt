@@ -4,7 +4,7 @@ use mir.Syntax.{w32, w64}
 use mir.Facts.{toZ-ofZ}
 use borrow.Author.Needs.{needs}
 use Rattle.integers.specs.Parity.{even}
-use Rattle.integers.specs.Size.{back}
+use Rattle.integers.specs.lemmas.Size.{back}
 use Rattle.operator.proofs.sums.is_even.Statement.{statement}
 use Rattle.operator.proofs.sums.is_even.Tie as tie
 

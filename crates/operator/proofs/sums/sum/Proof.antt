@@ -4,7 +4,7 @@ use mir.Syntax.{w32}
 use mir.Val.{SFits}
 use mir.Facts.{sfits-widen}
 use borrow.Author.Needs.{needs}
-use Rattle.integers.specs.Size.{size-+, size→fits, fits→size}
+use Rattle.integers.specs.lemmas.Size.{size-+, size→fits, fits→size}
 use Rattle.operator.proofs.sums.sum.Statement.{statement}
 use Rattle.operator.proofs.sums.sum.Tie as tie
 

@@ -2,8 +2,8 @@ use native.Mathlib.Omega.{arith}
 use mathlib.Core.Path.{_≡_, sym}
 use Prim.Native.Nat.{ℕ}
 use lib.Seq.{length-take-le}
-use Rattle.qasm_lines.proofs.Reading.{tested}
-use Rattle.qasm_file.specs.Laws.{begins-short}
+use Rattle.gate_qasm.proofs.Reading.{tested}
+use Rattle.qasm_file.specs.lemmas.Laws.{begins-short}
 use Rattle.qasm_file.specs.File.{header, beginsFile}
 use borrow.Author.Needs.{needs}
 use Rattle.qasm_file.proofs.back.begins.Statement.{statement}

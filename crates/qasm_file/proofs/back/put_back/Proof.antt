@@ -4,8 +4,8 @@ use mathlib.Core.Path.{sym, _∙_}
 use borrow.Author.Tests.{lt-ltb, le-ltb, not-true, not-false}
 use lib.ListN.{length}
 use Rattle.list_lines.specs.Lines.{tooLongLine}
-use Rattle.texts.specs.Puts.{one, weaken}
-use Rattle.qasm_file.specs.Laws.{take-rest}
+use Rattle.text_puts.specs.Puts.{one, weaken}
+use Rattle.qasm_file.specs.lemmas.Laws.{take-rest}
 use borrow.Author.Needs.{needs}
 use Rattle.qasm_file.proofs.back.put_back.Statement.{statement}
 use Rattle.qasm_file.proofs.back.put_back.Tie as tie

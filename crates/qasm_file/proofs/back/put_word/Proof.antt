@@ -1,7 +1,7 @@
 use lib.Dec.{lit≤}
 use mathlib.Core.List.{[], _∷_}
-use Rattle.texts.specs.Puts.{one, join}
-use Rattle.texts.specs.Texts.{shown, shown-size}
+use Rattle.text_puts.specs.Puts.{one, join}
+use Rattle.text_puts.specs.Texts.{shown, shown-size}
 use borrow.Author.Needs.{needs}
 use Rattle.qasm_file.proofs.back.put_word.Statement.{statement}
 use Rattle.qasm_file.proofs.back.put_word.Tie as tie

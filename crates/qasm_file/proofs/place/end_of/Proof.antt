@@ -1,5 +1,5 @@
 use native.Mathlib.Omega.{arith}
-use Rattle.qasm_file.specs.Laws.{end-none, end-feed, end-other}
+use Rattle.qasm_file.specs.lemmas.Laws.{end-none, end-feed, end-other}
 use borrow.Author.Needs.{needs}
 use Rattle.qasm_file.proofs.place.end_of.Statement.{statement}
 use Rattle.qasm_file.proofs.place.end_of.Tie as tie

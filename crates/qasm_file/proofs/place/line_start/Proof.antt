@@ -3,7 +3,7 @@ use mathlib.Core.Path.{_≡_, refl, sym, _∙_}
 use native.Mathlib.Omega.{arith}
 use lib.ListN.{length}
 use Rattle.qasm_file.specs.File.{lineStart}
-use Rattle.qasm_file.specs.Laws.{line-here, line-before, line-first}
+use Rattle.qasm_file.specs.lemmas.Laws.{line-here, line-before, line-first}
 use Rattle.qasm_file.proofs.place.line_start.Statement.{statement}
 use Rattle.qasm_file.proofs.place.line_start.Tie as tie
 

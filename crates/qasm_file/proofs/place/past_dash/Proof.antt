@@ -2,8 +2,8 @@ use native.Mathlib.Omega.{arith}
 use mathlib.Core.Path.{sym, ap, _∙_}
 use mathlib.Core.List.{[], _∷_}
 use lib.ListN.{length, drop, length-drop}
-use Rattle.qasm_lines.proofs.Reading.{tested}
-use Rattle.qasm_file.specs.Laws.{take-rest, dash-there, dash-not}
+use Rattle.gate_qasm.proofs.Reading.{tested}
+use Rattle.qasm_file.specs.lemmas.Laws.{take-rest, dash-there, dash-not}
 use borrow.Author.Needs.{needs}
 use Rattle.qasm_file.proofs.place.past_dash.Statement.{statement}
 use Rattle.qasm_file.proofs.place.past_dash.Tie as tie

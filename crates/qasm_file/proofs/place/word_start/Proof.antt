@@ -3,8 +3,8 @@ use lib.ListN.{take, drop}
 use native.Mathlib.Omega.{arith}
 use mathlib.Core.Path.{_≡_, sym, _∙_}
 use mathlib.Core.List.{[], _∷_}
-use Rattle.qasm_lines.proofs.Reading.{tested}
-use Rattle.qasm_file.specs.Laws.{word-short, word-there, word-not}
+use Rattle.gate_qasm.proofs.Reading.{tested}
+use Rattle.qasm_file.specs.lemmas.Laws.{word-short, word-there, word-not}
 use borrow.Author.Needs.{needs}
 use Rattle.qasm_file.proofs.place.word_start.Statement.{statement}
 use Rattle.qasm_file.proofs.place.word_start.Tie as tie

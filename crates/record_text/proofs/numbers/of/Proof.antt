@@ -1,4 +1,4 @@
-use Rattle.forms.specs.Forms.{fieldsOf, numbersAt}
+use Rattle.record_forms.specs.Forms.{fieldsOf, numbersAt}
 use borrow.Author.Needs.{needs}
 use Rattle.record_text.proofs.numbers.of.Statement.{statement}
 use Rattle.record_text.proofs.numbers.of.Tie as tie

@@ -1,9 +1,9 @@
 use mathlib.Core.Path.{sym, ap, _∙_}
 use lib.IntN.{pos}
 use mir.Syntax.{w64}
-use Rattle.integers.specs.Size.{back}
-use Rattle.fields.specs.Field.{one}
-use Rattle.forms.specs.Forms.{numberAt}
+use Rattle.integers.specs.lemmas.Size.{back}
+use Rattle.record_fields.specs.Field.{one}
+use Rattle.record_forms.specs.Forms.{numberAt}
 use borrow.Author.Needs.{needs}
 use Rattle.record_text.proofs.numbers.unsigned1.Statement.{statement}
 use Rattle.record_text.proofs.numbers.unsigned1.Tie as tie

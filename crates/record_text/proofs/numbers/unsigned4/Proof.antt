@@ -3,7 +3,7 @@ use mathlib.Core.Path.{ap, _∙_}
 use lib.IntN.{pos}
 use mir.Syntax.{w64}
 use mir.Facts.{toZ-pos}
-use Rattle.forms.specs.Forms.{numberAt}
+use Rattle.record_forms.specs.Forms.{numberAt}
 use borrow.Author.Needs.{needs}
 use Rattle.record_text.proofs.numbers.unsigned4.Statement.{statement}
 use Rattle.record_text.proofs.numbers.unsigned4.Tie as tie

@@ -5,7 +5,7 @@ use mir.Val.{SFits}
 use mir.Facts.{toZ-ofZ}
 use borrow.Author.Needs.{needs}
 use borrow.Author.Tests.{not-true, not-false}
-use Rattle.ranges.specs.Ranges.{directed}
+use Rattle.record_ranges.specs.Ranges.{directed}
 use Rattle.region.specs.Region.{inRangeS, checkOf}
 use Rattle.region.proofs.Slice.check.Statement.{statement}
 use Rattle.region.proofs.Slice.check.Tie as tie

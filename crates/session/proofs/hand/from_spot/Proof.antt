@@ -1,4 +1,4 @@
-use Rattle.stages.specs.Session.{gave-gives, empty-gives}
+use Rattle.session_stages.specs.Session.{gave-gives, empty-gives}
 use borrow.Author.Needs.{needs}
 use Rattle.session.proofs.hand.from_spot.Statement.{statement}
 use Rattle.session.proofs.hand.from_spot.Tie as tie

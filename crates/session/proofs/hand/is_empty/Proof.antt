@@ -5,8 +5,8 @@ use Prim.Native.Nat.{ℕ}
 use Rattle.ranks.specs.Rest.{at, isNil, leftAt}
 use Rattle.ranks.specs.Rank.{top}
 use Rattle.cuts.specs.Digits.{span}
-use Rattle.lists.specs.Walk.{listedAt, spotOf, full}
-use Rattle.stages.specs.Place.{least-rank}
+use Rattle.walk_list.specs.Walk.{listedAt, spotOf, full}
+use Rattle.session_stages.specs.Place.{least-rank}
 use borrow.Author.Needs.{needs}
 use Rattle.session.proofs.hand.is_empty.Statement.{statement}
 use Rattle.session.proofs.hand.is_empty.Tie as tie

@@ -6,7 +6,7 @@ use borrow.Author.Needs.{needs}
 use lib.ListN.{length, take, drop, length-drop}
 use lib.Seq.{take-all}
 use Rattle.text.specs.Decimal.{decimal}
-use Rattle.words.specs.Meaning.{sizeOf}
+use Rattle.integers_wide.specs.Meaning.{sizeOf}
 use Rattle.text.proofs.wide.put_wide.Statement.{statement}
 use Rattle.text.proofs.wide.put_wide.Tie as tie
 

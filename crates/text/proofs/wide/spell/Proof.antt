@@ -10,7 +10,7 @@ use borrow.Author.Needs.{needs}
 use borrow.Author.Tests.{leb-true, leb-false}
 use lib.ListN.{length, drop, length-set}
 use Rattle.text.specs.Decimal.{decimal}
-use Rattle.words.specs.Meaning.{sizeOf}
+use Rattle.integers_wide.specs.Meaning.{sizeOf}
 use Rattle.text.proofs.Words.{value-below, value-one, digit-fits, fewer, spelt-more, spelt, spelt-none}
 use Rattle.text.proofs.wide.spell.Statement.{statement}
 use Rattle.text.proofs.wide.spell.Tie as tie

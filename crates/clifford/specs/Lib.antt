@@ -1,3 +1,0 @@
--- What the code that writes tails is proved by.
-pub mod Written
-pub mod Place

@@ -1,0 +1,3 @@
+-- What the code that writes tails is proved by.
+pub mod Written
+pub mod lemmas

@@ -1,0 +1,22 @@
+-- Proved, and not to be read to believe it: nothing that a contract, or a claim of docs/PROOF.md, is stated with is defined in these files.
+pub mod Finite
+pub mod Halving
+pub mod Equation
+pub mod Step
+pub mod Least
+pub mod Number
+pub mod Letters
+pub mod Spelled
+pub mod Run
+pub mod Tails
+pub mod Base
+pub mod Cancel
+pub mod Unique
+pub mod Moves
+pub mod Order
+pub mod Shortest
+pub mod Alike
+pub mod Prior
+pub mod Before
+pub mod Only
+pub mod Length

@@ -1,0 +1,8 @@
+-- Proved, and not to be read to believe it: nothing that a contract, or a claim of docs/PROOF.md, is stated with is defined in these files.
+pub mod Ring
+pub mod RingZ
+pub mod Linear
+pub mod Order
+pub mod Size
+pub mod Booleans
+pub mod Tests

@@ -1,7 +1,0 @@
--- Operators as matrices: what the layers above may cite. Definitions are in Matrix, what holds of them in Determinant, Composed and Within; Bounded is a
--- step on the way.
-pub mod Matrix
-pub mod Determinant
-pub mod Composed
-pub mod Within
-pub mod Bounded

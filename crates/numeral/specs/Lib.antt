@@ -1,2 +1,0 @@
--- What the contract of `numeral` cites.
-pub mod Numeral

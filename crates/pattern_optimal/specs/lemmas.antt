@@ -1,0 +1,7 @@
+-- Proved, and not to be read to believe it: nothing that a contract, or a claim of docs/PROOF.md, is stated with is defined in these files.
+pub mod Equal
+pub mod Unitary
+pub mod Closing
+pub mod Passing
+pub mod Fewest
+pub mod Handed

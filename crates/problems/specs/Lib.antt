@@ -1,3 +1,0 @@
-pub mod Lines
-pub mod Nest
-pub mod Rows

@@ -1,0 +1,2 @@
+-- What the contracts of `program_usage` cite.
+pub mod Said

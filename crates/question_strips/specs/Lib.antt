@@ -1,0 +1,5 @@
+pub mod Reach
+pub mod Sharp
+pub mod Strips
+pub mod Units
+pub mod lemmas

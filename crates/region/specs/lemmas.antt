@@ -1,0 +1,8 @@
+-- Proved, and not to be read to believe it: nothing that a contract, or a claim of docs/PROOF.md, is stated with is defined in these files.
+pub mod Ranges
+pub mod Membership
+pub mod HalfWidth
+pub mod Box
+pub mod Conjugate
+pub mod Centre
+pub mod Times

@@ -1,8 +1,0 @@
--- `Session` has the model; `Rules` the rules of a list of calls and `Agree` that the answers are theirs; `Since` and `First` what was handed out; `End` a finished walk; `Refused` refused calls.
-pub mod Session
-pub mod Rules
-pub mod Agree
-pub mod Since
-pub mod First
-pub mod End
-pub mod Refused

@@ -1,6 +1,0 @@
--- Counts by exponent: `Spread` defines them, `Odd` has exponents by parity, `Places` the laws of lists with a number for each exponent, `Read` those of points in a slice.
-pub mod Spread
-pub mod Odd
-pub mod Places
-pub mod Read
-pub mod Kept

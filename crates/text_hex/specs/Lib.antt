@@ -1,0 +1,2 @@
+-- What the contracts of `text_hex` cite: hexadecimal pairs read.
+pub mod Hex

@@ -1,0 +1,2 @@
+-- What the contract of `text_numeral` cites.
+pub mod Numeral

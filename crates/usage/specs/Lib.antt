@@ -1,2 +1,0 @@
--- What the contracts of `usage` cite.
-pub mod Said

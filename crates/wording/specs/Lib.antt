@@ -1,4 +1,0 @@
--- What the contracts of `wording` cite: the names of the commands, and the numbers and the bytes of a line.
-pub mod Bytes
-pub mod Names
-pub mod Numbers
