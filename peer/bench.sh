@@ -5,7 +5,8 @@
 # seconds by the clock that a call may take, 10 if unset, and LIST_LIMIT those
 # of a whole list, 60 if unset. The skewed jobs are many: EVERY=n takes each
 # n-th of them, 1 if unset. HARD sets the number of hard random jobs of each
-# range of scales, 20000 if unset, and SEED their seed, 1 if unset.
+# range of scales, 20000 if unset, and SEED their seed, 1 if unset. BEFORE names
+# a directory with `list` and `count` of an earlier commit, to compare with.
 set -u
 [ $# -eq 1 ] || { echo "usage: $0 BIN" >&2; exit 2; }
 bin=$1
@@ -13,6 +14,7 @@ call_limit=${LIMIT:-10}
 list_limit=${LIST_LIMIT:-60}
 every=${EVERY:-1}
 hard=${HARD:-20000}
+before=${BEFORE:-}
 seed=${SEED:-1}
 peer=${PEER:-$(dirname "$0")/target/release/peer}
 scratch=$(mktemp -d) || exit 2
@@ -35,26 +37,44 @@ run() {
 
 # ratio A B: A / B, or a dash where one is missing or too short to say.
 ratio() {
-    awk -v a="$1" -v b="$2" 'BEGIN { if (a == "over" || b == "over" || b < 0.01) print "-"; else printf "%.2f", a / b }'
+    awk -v a="$1" -v b="$2" 'BEGIN { if (a == "over" || b == "over" || b < 0.003) print "-"; else printf "%.2f", a / b }'
+}
+
+# least LIMIT INPUT COMMAND...: as run; a run below 50 ms is grainy, so then it
+# is the mean of twenty, the least of three such.
+least() {
+    local shortest='' i TIMEFORMAT='%U %S'
+    run "$@"
+    awk -v t="$took" 'BEGIN { exit !(t != "over" && t < 0.05) }' || return
+    for _ in 1 2 3; do
+        { time for i in {1..20}; do "${@:3}" <"$2" >"$printed" 2>"$scratch/said"; done; } 2>"$scratch/time"
+        shortest=$(awk -v a="$shortest" '{ b = ($1 + $2) / 20; printf "%.5f", (a == "" || b < a) ? b : a }' "$scratch/time")
+    done
+    took=$shortest
 }
 
 whole_lists() {
-    local row='%-28s %11s %12s %8s %8s %6s %8s %8s %6s\n' job ours theirs count_ours count_theirs points candidates
-    echo "Whole lists, printed, and the search alone (count), with the peer's candidates"
+    local row='%-28s %11s %12s %8s %8s %6s %8s %8s %6s %8s %8s %6s\n' job ours theirs count_ours count_theirs points candidates was count_was
+    echo "Whole lists, printed, and the search alone (count), with the peer's candidates; list and count of an earlier commit, and what count takes of its"
     # shellcheck disable=SC2059
-    printf "$row" job points candidates list peer ratio count peer ratio
+    printf "$row" job points candidates list peer ratio count peer ratio before count ratio
     for job in "$jobs"/{disks,tilted,whole}-*.job; do
         printed=/dev/null
-        run "$list_limit" "$job" "$bin/list"; ours=$took
-        run "$list_limit" "$job" "$peer" list; theirs=$took
+        least "$list_limit" "$job" "$bin/list"; ours=$took
+        least "$list_limit" "$job" "$peer" list; theirs=$took
+        was=- count_was=over
+        if [ -n "$before" ]; then
+            least "$list_limit" "$job" "$before/list"; was=$took
+            least "$list_limit" "$job" "$before/count"; count_was=$took
+        fi
         printed=$scratch/printed
-        run "$list_limit" "$job" "$peer" count; count_theirs=$took
+        least "$list_limit" "$job" "$peer" count; count_theirs=$took
         candidates=$(awk '{ print $2 }' "$scratch/said")
-        run "$list_limit" "$job" "$bin/count"; count_ours=$took
+        least "$list_limit" "$job" "$bin/count"; count_ours=$took
         points=$(sed 's/^end //' "$printed")
         # shellcheck disable=SC2059
         printf "$row" "$(basename "$job" .job)" "${points:--}" "${candidates:--}" "$ours" "$theirs" "$(ratio "$ours" "$theirs")" \
-            "$count_ours" "$count_theirs" "$(ratio "$count_ours" "$count_theirs")"
+            "$count_ours" "$count_theirs" "$(ratio "$count_ours" "$count_theirs")" "$was" "$count_was" "$(ratio "$count_ours" "$count_was")"
     done
 }
 
@@ -81,18 +101,18 @@ limit() {
 parts() {
     local began took least_list='' least_parts=''
     seconds() { awk -v a="$1" -v b="$EPOCHREALTIME" 'BEGIN { printf "%.3f", b - a }'; }
-    least() { awk -v a="$1" -v b="$2" 'BEGIN { print (a == "" || b < a) ? b : a }'; }
+    shorter() { awk -v a="$1" -v b="$2" 'BEGIN { print (a == "" || b < a) ? b : a }'; }
     printf 'scale 12\nselection all\ndisk 1\ndisk 1\n' | "$bin/job" >"$scratch/parts.job"
     echo "Unit disks at scale 12, all points, by the clock: list, two parts side by side, ratio, load"
     for _ in 1 2 3; do
         began=$EPOCHREALTIME
         "$bin/list" <"$scratch/parts.job" >/dev/null
-        least_list=$(least "$least_list" "$(seconds "$began")")
+        least_list=$(shorter "$least_list" "$(seconds "$began")")
         began=$EPOCHREALTIME
         "$bin/part" -2147483648 -1 <"$scratch/parts.job" >/dev/null &
         "$bin/part" 0 2147483647 <"$scratch/parts.job" >/dev/null
         wait $!
-        least_parts=$(least "$least_parts" "$(seconds "$began")")
+        least_parts=$(shorter "$least_parts" "$(seconds "$began")")
     done
     cmp -s <("$bin/part" -2147483648 -1 <"$scratch/parts.job"; "$bin/part" 0 2147483647 <"$scratch/parts.job") <("$bin/list" <"$scratch/parts.job" | head -n -1) ||
         { echo 'the parts are not the list' >&2; exit 1; }
@@ -272,7 +292,7 @@ tests() {
         /^calls=/ { split($1, n, "="); calls[to] += n[2] }
         /^totals:/ { total = $2 }
         END {
-            for (id in calls) if (name[id] ~ /(solves_accepted|along::solves)$/) sum += calls[id]
+            for (id in calls) if (name[id] ~ /(solves_accepted|row_tests::solves)$/) sum += calls[id]
             print sum + 0, total
         }' "$scratch/calls"
 }
