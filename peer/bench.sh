@@ -40,15 +40,17 @@ ratio() {
     awk -v a="$1" -v b="$2" 'BEGIN { if (a == "over" || b == "over" || b < 0.003) print "-"; else printf "%.2f", a / b }'
 }
 
-# least LIMIT INPUT COMMAND...: as run; a run below 50 ms is grainy, so then it
-# is the mean of twenty, the least of three such.
+# least LIMIT INPUT COMMAND...: as run, the least of three below a second; a run
+# below 50 ms is grainy, so there each of the three is the mean of twenty.
 least() {
-    local shortest='' i TIMEFORMAT='%U %S'
+    local shortest i turns TIMEFORMAT='%U %S'
     run "$@"
-    awk -v t="$took" 'BEGIN { exit !(t != "over" && t < 0.05) }' || return
+    awk -v t="$took" 'BEGIN { exit !(t != "over" && t < 1) }' || return
+    shortest=$took
+    turns=$(awk -v t="$took" 'BEGIN { print t < 0.05 ? 20 : 1 }')
     for _ in 1 2 3; do
-        { time for i in {1..20}; do "${@:3}" <"$2" >"$printed" 2>"$scratch/said"; done; } 2>"$scratch/time"
-        shortest=$(awk -v a="$shortest" '{ b = ($1 + $2) / 20; printf "%.5f", (a == "" || b < a) ? b : a }' "$scratch/time")
+        { time for ((i = 0; i < turns; i++)); do "${@:3}" <"$2" >"$printed" 2>"$scratch/said"; done; } 2>"$scratch/time"
+        shortest=$(awk -v a="$shortest" -v n="$turns" '{ b = ($1 + $2) / n; printf "%.5f", b < a ? b : a }' "$scratch/time")
     done
     took=$shortest
 }
@@ -89,7 +91,9 @@ limit() {
         printed=$scratch/printed
         run "$list_limit" "$jobs/$name.job" "$bin/list"
         points=$(tail -n 1 "$printed" | sed 's/^end //')
-        "$scratch/limit" "$printed" >/dev/null 2>"$scratch/said"
+        printed=/dev/null
+        least "$list_limit" "$jobs/$name.job" "$bin/list"
+        "$scratch/limit" "$scratch/printed" >/dev/null 2>"$scratch/said"
         awk -v name="$name" -v t="$took" -v n="$points" \
             '{ printf "%-24s %8s %8.2f %6.1f\n", name, $1, t * 1e9 / n, t * 1e9 / n / $1 }' "$scratch/said"
     done
@@ -300,7 +304,7 @@ tests() {
 candidates() {
     command -v valgrind >/dev/null || { echo 'Candidates: no valgrind here'; return; }
     local k name said
-    echo 'Candidates (points that are tested), and instructions of the whole run:'
+    echo 'Candidates (points tested by a call; tests along a row are not calls), and instructions of the whole run:'
     for k in 08 10; do
         "$peer" count <"$jobs/disks-k$k.job" >/dev/null 2>"$scratch/said"
         said=$(awk '{ print $2 }' "$scratch/said")
