@@ -1,4 +1,6 @@
 // The library for callers that are not Rattle: SPEC, "Library"; include/bowujita.h, bindings/. Every public entry is here, and nothing else. Sessions go in and come out by value, as plain numbers.
+#![tactic(auto)]
+
 ghost use Rattle.std.specs.Prelude.{◌≡◌};
 ghost use Rattle.session_model.specs.Session.{reading, rewind, clear, plain, image_of, shortest};
 ghost use Rattle.library_numbers.specs.Numbers.{point_of};

@@ -10,7 +10,7 @@ use operator::{Check, Inverse, WidePoint};
 
 // A point of 64-bit numbers.
 #[repr(C)]
-#[derive(Drop)]
+#[derive(Clone, Copy)]
 pub struct WideFour {
     pub a: i64,
     pub b: i64,
@@ -20,7 +20,7 @@ pub struct WideFour {
 
 // The number of a refusal, or 0 and the inverse.
 #[repr(C)]
-#[derive(Drop)]
+#[derive(Clone, Copy)]
 pub struct Inverted {
     pub number: u8,
     pub operator: Eight,

@@ -1,4 +1,6 @@
 // The entries, tried by hand or by another program: an answer for each line of standard input, written before more of the input is waited for.
+#![tactic(auto)]
+
 ghost use Rattle.std.specs.Prelude.{◌≡◌, ◌≤◌, length};
 ghost use Rattle.text_input_lines.specs.Fed.{Fits, Fed};
 
@@ -7,7 +9,7 @@ use libc::STDIN_FILENO;
 use text_input_lines::{Gathered, Said};
 
 // What is kept from one read to the next, and whether to go on.
-#[derive(Drop)]
+#[derive(Clone, Copy)]
 struct Talk {
     desk: Desk,
     gathered: Gathered,
@@ -15,7 +17,7 @@ struct Talk {
 }
 
 // The desk that an answer leaves, and whether the answer was taken.
-#[derive(Drop)]
+#[derive(Clone, Copy)]
 struct Told {
     desk: Desk,
     going: bool,

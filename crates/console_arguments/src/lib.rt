@@ -1,11 +1,13 @@
 // Whole numbers of 64 bits as what a call takes, where they fit: a point, a scale, an interval, an operator.
+#![tactic(auto)]
+
 use integers::{Narrow, Short};
 use line::Interval;
 use operator::{Narrowed, Operator, WidePoint};
 use ring::Point;
 
 // Four numbers of 32 bits.
-#[derive(Drop)]
+#[derive(Clone, Copy)]
 pub enum Four {
     Point(Point),
     TooWide,
@@ -32,7 +34,7 @@ pub fn point_at(n: &[i64], at: usize) -> Four {
 }
 
 // A number of 8 bits, without a sign.
-#[derive(Drop)]
+#[derive(Clone, Copy)]
 pub enum Byte {
     Fits(u8),
     TooWide,
@@ -51,7 +53,7 @@ pub fn byte_of(k: i64) -> Byte {
 }
 
 // A number without a sign.
-#[derive(Drop)]
+#[derive(Clone, Copy)]
 pub enum Natural {
     Fits(u64),
     Negative,
@@ -66,7 +68,7 @@ pub fn natural_of(n: i64) -> Natural {
 }
 
 // A number of 32 bits, without a sign.
-#[derive(Drop)]
+#[derive(Clone, Copy)]
 pub enum Word {
     Fits(u32),
     TooWide,
@@ -85,7 +87,7 @@ pub fn word_of(n: i64) -> Word {
 }
 
 // A byte and four numbers of 32 bits.
-#[derive(Drop)]
+#[derive(Clone, Copy)]
 pub enum Scaled {
     Point(u8, Point),
     TooWide,
@@ -106,7 +108,7 @@ pub fn scaled_at(n: &[i64], at: usize) -> Scaled {
 }
 
 // Three numbers of 32 bits.
-#[derive(Drop)]
+#[derive(Clone, Copy)]
 pub enum Ends {
     Interval(Interval),
     TooWide,
@@ -137,7 +139,7 @@ fn interval_of(n: i64, lo: i64, hi: i64) -> Ends {
 }
 
 // Four numbers of 16 bits.
-#[derive(Drop)]
+#[derive(Clone, Copy)]
 enum Shorts {
     Fit(i16, i16, i16, i16),
     TooWide,
@@ -170,7 +172,7 @@ fn shorts_of(a: i64, b: i64, c: i64, d: i64) -> Shorts {
 }
 
 // Eight numbers of 16 bits.
-#[derive(Drop)]
+#[derive(Clone, Copy)]
 pub enum Eight {
     Operator(Operator),
     TooWide,

@@ -1,4 +1,6 @@
 // The console's commands for the bench's session (SPEC, "Console").
+#![tactic(auto)]
+
 use console_arguments::Four;
 use console_replies::{Line, Value};
 use record::Refusal;
@@ -8,7 +10,7 @@ use text_hex::Hex;
 use text_words::{Numbers, Slice};
 
 // The session that a line leaves, and its answer.
-#[derive(Drop)]
+#[derive(Clone, Copy)]
 pub struct Reply {
     pub session: Tallied,
     pub line: Line,

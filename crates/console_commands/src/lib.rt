@@ -1,4 +1,6 @@
 // What the console answers, line by line (SPEC, "Console").
+#![tactic(auto)]
+
 ghost use Rattle.std.specs.Prelude.{◌≡◌, length};
 ghost use Rattle.io.specs.Counts.{IsPrefixLen};
 
@@ -6,14 +8,14 @@ use session_tallied::Tallied;
 use tray::Session;
 
 // What is kept from line to line: the bench's session and the tray's, which their calls move on.
-#[derive(Drop)]
+#[derive(Clone, Copy)]
 pub struct Desk {
     pub session: Tallied,
     pub tray: Session,
 }
 
 // The desk that a line leaves, and the length of its answer.
-#[derive(Drop)]
+#[derive(Clone, Copy)]
 pub struct Answered {
     pub desk: Desk,
     pub length: usize,
@@ -70,7 +72,7 @@ fn kept(d: Desk, length: usize) -> Answered {
 }
 
 // What the first word of a line names, and where the word ends.
-#[derive(Drop)]
+#[derive(Clone, Copy)]
 struct Command {
     name: usize,
     end: usize,

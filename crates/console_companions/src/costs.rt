@@ -21,7 +21,7 @@ pub fn put_cost(out: &mut [u8], c: usize, line: &[u8], from: usize) -> usize {
 }
 
 // Four prices of 32 bits.
-#[derive(Drop)]
+#[derive(Clone, Copy)]
 enum Prices {
     Tariff(Tariff),
     TooWide,

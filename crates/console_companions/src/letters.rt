@@ -18,7 +18,7 @@ pub fn put_words(out: &mut [u8], line: &[u8], from: usize) -> usize {
 }
 
 // The scale, u and t, and how many letters of each slice are lent.
-#[derive(Drop)]
+#[derive(Clone, Copy)]
 struct Asked {
     k: u8,
     u: Point,
@@ -28,7 +28,7 @@ struct Asked {
 }
 
 // What the numbers of a line ask for.
-#[derive(Drop)]
+#[derive(Clone, Copy)]
 enum Question {
     Words(Asked),
     Bad,

@@ -1,4 +1,6 @@
 // The console's commands for gate words, their costs and their texts, and for pattern sheets (SPEC, "Console").
+#![tactic(auto)]
+
 mod costs;
 mod letters;
 mod sheets;

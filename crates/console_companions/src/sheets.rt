@@ -59,7 +59,7 @@ pub fn put_sheet(out: &mut [u8], line: &[u8], from: usize) -> usize {
 }
 
 // What the numbers of a line ask for: a sheet, and the length of the slice to be lent.
-#[derive(Drop)]
+#[derive(Clone, Copy)]
 enum Asked {
     Sheet(Sheet, usize),
     Bad,

@@ -25,7 +25,7 @@ pub fn put_word(out: &mut [u8], line: &[u8], from: usize) -> usize {
 }
 
 // How many bytes the line spells, and the length of the slice to be lent.
-#[derive(Drop)]
+#[derive(Clone, Copy)]
 enum Asked {
     Bytes(usize, usize),
     Bad,

@@ -1,10 +1,12 @@
 // What a line of the console is answered, and the line of text that says it (SPEC, "Console").
+#![tactic(auto)]
+
 use integers_wide::Size;
 use operator::{Operator, WidePoint};
 use ring::Point;
 
 // A line that is not one of the commands', a refusal by its number, or what follows `ok`.
-#[derive(Drop)]
+#[derive(Clone, Copy)]
 pub enum Line {
     Bad,
     Refused(u8),
@@ -12,7 +14,7 @@ pub enum Line {
 }
 
 // What follows `ok`.
-#[derive(Drop)]
+#[derive(Clone, Copy)]
 pub enum Value {
     Nothing,
     Says(bool),

@@ -1,4 +1,6 @@
 // The console's commands for numbers, points and operators (SPEC, "Console").
+#![tactic(auto)]
+
 mod elements;
 mod entries;
 mod operators;

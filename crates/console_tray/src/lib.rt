@@ -1,4 +1,6 @@
 // The console's commands for trays (SPEC, "Console").
+#![tactic(auto)]
+
 use console_arguments::Natural;
 use console_replies::{Line, Value};
 use text_hex::Hex;
@@ -6,7 +8,7 @@ use text_words::{Numbers, Slice};
 use tray::{Answer, Outcome, Session};
 
 // The tray's session that a line leaves, and its answer.
-#[derive(Drop)]
+#[derive(Clone, Copy)]
 pub struct Reply {
     pub session: Session,
     pub line: Line,
@@ -61,7 +63,7 @@ fn take(s: Session, line: &[u8], from: usize) -> Reply {
 }
 
 // How many bytes the two last words of a line spell.
-#[derive(Drop)]
+#[derive(Clone, Copy)]
 enum Parts {
     Bytes(usize, usize),
     Bad,

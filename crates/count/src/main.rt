@@ -1,4 +1,6 @@
 // The list program without the lines of the solutions, so that the search can be timed alone.
+#![tactic(auto)]
+
 use libc::STDIN_FILENO;
 
 fn main() {

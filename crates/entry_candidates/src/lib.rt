@@ -1,4 +1,6 @@
 // The search's candidates: the least solution that has a given first coordinate and third, among the points that a line and a circle leave.
+#![tactic(auto)]
+
 pub mod column;
 mod offer;
 mod order;
@@ -9,14 +11,14 @@ use ring::Point;
 pub use sums::Want;
 
 // Where the list begins.
-#[derive(Drop)]
+#[derive(Clone, Copy)]
 pub enum Place {
     Beginning,
     After(Point),
 }
 
 // The next solution, if there is one.
-#[derive(Drop)]
+#[derive(Clone, Copy)]
 pub enum Found {
     At(Point),
     Missing,

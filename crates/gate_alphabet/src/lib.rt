@@ -1,4 +1,6 @@
 // Words as bytes: the letters H, S, T and W of SPEC, "Gate words".
+#![tactic(auto)]
+
 ghost use Rattle.std.specs.Prelude.{◌≡◌};
 ghost use Rattle.gate_alphabet.specs.Letters.{is_letter, are_letters};
 

@@ -4,7 +4,7 @@ ghost use Rattle.gate_theory.specs.Table.{letter, unpack};
 ghost use Rattle.gate_clifford.specs.Written.{written, byte, Adds};
 
 // The letters of a word, the first `len` of the array.
-#[derive(Drop)]
+#[derive(Clone, Copy)]
 pub struct Word {
     pub letters: [u8; 128],
     pub len: usize,

@@ -1,4 +1,6 @@
 // Clifford tails: the last letters of a gate word, without T, written into an array. SPEC, "Gate words".
+#![tactic(auto)]
+
 mod letters;
 mod tails;
 

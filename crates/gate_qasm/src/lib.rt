@@ -1,4 +1,6 @@
 // Words as lines of OpenQASM 2.0, written and read: document 02, Ticket 12.
+#![tactic(auto)]
+
 mod letters;
 mod lines;
 
@@ -9,7 +11,7 @@ use letters::put_word;
 use lines::{is_text, lines_of, put_lines};
 
 // Why nothing was written; the numbers are `number_of` of specs/Calls.
-#[derive(Drop)]
+#[derive(Clone, Copy)]
 pub enum Refusal {
     NotALetter,
     NotALine,
@@ -17,7 +19,7 @@ pub enum Refusal {
 }
 
 // How many bytes were written.
-#[derive(Drop)]
+#[derive(Clone, Copy)]
 pub enum Answer {
     Wrote(usize),
     Refused(Refusal),

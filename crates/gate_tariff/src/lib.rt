@@ -1,4 +1,6 @@
 // What words cost by a tariff, one word or a tray of them: document 02, Tickets 8 and 13.
+#![tactic(auto)]
+
 mod price;
 mod tray_words;
 
@@ -10,7 +12,7 @@ use price::{Ticks, in_range, word_ticks};
 use tray_words::{size, total};
 
 // The prices of the letters, in thousandths of a tick.
-#[derive(Drop)]
+#[derive(Clone, Copy)]
 pub struct Tariff {
     pub h: u32,
     pub s: u32,
@@ -19,7 +21,7 @@ pub struct Tariff {
 }
 
 // Why there is no cost; the numbers are `number_of` of specs/Tariff.
-#[derive(Drop)]
+#[derive(Clone, Copy)]
 pub enum Refusal {
     OutOfRange,
     NotALetter,
@@ -27,7 +29,7 @@ pub enum Refusal {
 }
 
 // The cost in whole ticks, and whether the memory has as many.
-#[derive(Drop)]
+#[derive(Clone, Copy)]
 pub enum Answer {
     Costs(u32, bool),
     Refused(Refusal),

@@ -10,7 +10,7 @@ const TOP_PRICE: u32 = 1000000;
 const TOP_LENGTH: usize = 65536;
 
 // What a word costs in whole ticks, or why there is no such cost.
-#[derive(Drop)]
+#[derive(Clone, Copy)]
 pub enum Ticks {
     Sum(u64),
     Refused(Refusal),

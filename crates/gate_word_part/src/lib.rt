@@ -1,5 +1,7 @@
 // The part that `gate_words_lent::words` hands back, copied to the front of a third lent slice: SPEC, "Gate words".
 // A caller has plain slices and numbers, and needs no walk.
+#![tactic(auto)]
+
 ghost use Rattle.std.specs.Prelude.{◌≡◌};
 ghost use Rattle.text.specs.Written.{written, after};
 ghost use Rattle.gate_word_part.specs.Copies.{Copies};
@@ -7,7 +9,7 @@ ghost use Rattle.gate_word_part.specs.Copies.{Copies};
 use ring::Point;
 
 // The number, 0 if there are words, and how many bytes were copied.
-#[derive(Drop)]
+#[derive(Clone, Copy)]
 pub struct Copied {
     pub number: u8,
     pub len: usize,

@@ -1,4 +1,6 @@
 // The words of U and of TUT† in two lent slices: SPEC, "Gate words".
+#![tactic(auto)]
+
 ghost use Rattle.std.specs.Prelude.{◌≡◌, true, cond, ◌≤◌, length, take};
 ghost use Rattle.gates.specs.Written.{written};
 ghost use Rattle.gate_words.specs.Words.{number_of, number, is_second, length_of, answer_to, laid, Spells, Hands};
@@ -7,7 +9,7 @@ use gates::Word;
 use ring::Point;
 
 // Why there is no word; the numbers are `number_of` of specs/Words.
-#[derive(Drop)]
+#[derive(Clone, Copy)]
 pub enum Refusal {
     OutOfRange,
     NotUnitary,
@@ -15,7 +17,7 @@ pub enum Refusal {
 }
 
 // Which slice holds the word with fewer T, and how long it is.
-#[derive(Drop)]
+#[derive(Clone, Copy)]
 pub enum Answer {
     First(usize),
     Second(usize),
@@ -23,7 +25,7 @@ pub enum Answer {
 }
 
 // An answer taken apart: its number, 0 if there are words, and the part that it names.
-#[derive(Drop)]
+#[derive(Clone, Copy)]
 pub struct Part {
     pub number: u8,
     pub second: bool,

@@ -1,5 +1,7 @@
 // The words of U and of TUT† in the form that is asked for: one call, whose result holds the number and a part of one of the two lent slices.
 // It is thin: `gate_words` does the work.
+#![tactic(auto)]
+
 ghost use Rattle.gate_words.specs.Words.{first_after, second_after};
 ghost use Rattle.gate_words_lent.specs.Ends.{Gives, ends};
 

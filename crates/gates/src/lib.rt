@@ -1,4 +1,6 @@
 // Gate words: SPEC, "Gate words".
+#![tactic(auto)]
+
 mod elements;
 mod letters;
 mod parity;

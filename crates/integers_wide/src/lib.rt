@@ -1,17 +1,19 @@
 // Whole numbers of two 64-bit words.
+#![tactic(auto)]
+
 ghost use Rattle.std.specs.Prelude.{◌≡◌, ◌+◌, ◌-◌, ◌*◌, ◌^◌, ◌<◌, ◌≤◌, pos, ◌+ℤ◌, ◌-ℤ◌, ◌*ℤ◌, nat_lt, unsigned_abs};
 ghost use Rattle.std.specs.Int.Signed.{non_neg};
 ghost use Rattle.integers_wide.specs.Meaning.{size_of, wrapped, meaning, turned_if, Half};
 
 // hi·2^64 + lo, a signed number in two's complement.
-#[derive(Drop)]
+#[derive(Clone, Copy)]
 pub struct Wide {
     pub hi: i64,
     pub lo: u64,
 }
 
 // hi·2^64 + lo, without a sign.
-#[derive(Drop)]
+#[derive(Clone, Copy)]
 pub struct Size {
     pub hi: u64,
     pub lo: u64,

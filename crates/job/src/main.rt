@@ -1,4 +1,6 @@
 // The program `job`: a job in words on standard input, its records on standard output. SPEC, "Jobs in words".
+#![tactic(auto)]
+
 ghost use Rattle.std.specs.Prelude.{◌≡◌, length};
 ghost use Rattle.system_transfer.specs.Sending.{Sent};
 ghost use Rattle.program_filter.specs.Answered.{Answered};

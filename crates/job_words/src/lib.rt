@@ -1,4 +1,6 @@
 // A job in words as its records: SPEC, "Jobs in words".
+#![tactic(auto)]
+
 ghost use Rattle.std.specs.Prelude.{◌≡◌, ◌≤◌, ltb, length};
 ghost use Rattle.record_forms.specs.Laid.{Laid};
 ghost use Rattle.text_puts.specs.Puts.{Puts};
@@ -9,7 +11,7 @@ mod reading;
 use record_kinds::Kind;
 
 // Nothing, where the line is blank; else a record of a kind with the first `count` numbers, where it is good.
-#[derive(Drop)]
+#[derive(Clone, Copy)]
 struct Row {
     kind: Kind,
     numbers: [i64; 16],

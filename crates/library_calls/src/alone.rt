@@ -10,7 +10,7 @@ use line::Interval;
 
 // hi·2^64 + lo, a number of two words.
 #[repr(C)]
-#[derive(Drop)]
+#[derive(Clone, Copy)]
 pub struct TwoWords {
     pub hi: i64,
     pub lo: u64,
@@ -18,7 +18,7 @@ pub struct TwoWords {
 
 // A hand-out's count and end, or the number of its refusal.
 #[repr(C)]
-#[derive(Drop)]
+#[derive(Clone, Copy)]
 pub struct Handed {
     pub number: u8,
     pub ended: u8,
@@ -27,7 +27,7 @@ pub struct Handed {
 
 // The number of a refusal, or which slice has the word with fewer T, 0 the first, and how long it is.
 #[repr(C)]
-#[derive(Drop)]
+#[derive(Clone, Copy)]
 pub struct Word {
     pub number: u8,
     pub second: u8,
@@ -36,7 +36,7 @@ pub struct Word {
 
 // lo ≤ n·z ≤ hi.
 #[repr(C)]
-#[derive(Drop)]
+#[derive(Clone, Copy)]
 pub struct Three {
     pub n: i32,
     pub lo: i32,

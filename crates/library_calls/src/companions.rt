@@ -9,7 +9,7 @@ use ring::Point;
 
 // The prices of the letters, in thousandths of a tick.
 #[repr(C)]
-#[derive(Drop)]
+#[derive(Clone, Copy)]
 pub struct Prices {
     pub h: u32,
     pub s: u32,
@@ -19,7 +19,7 @@ pub struct Prices {
 
 // The number of a refusal, or 0, the cost in ticks and whether it fits the memory.
 #[repr(C)]
-#[derive(Drop)]
+#[derive(Clone, Copy)]
 pub struct Ticks {
     pub number: u8,
     pub fits: u8,
@@ -28,7 +28,7 @@ pub struct Ticks {
 
 // The number of a refusal, or 0 and how many bytes were written.
 #[repr(C)]
-#[derive(Drop)]
+#[derive(Clone, Copy)]
 pub struct Wrote {
     pub number: u8,
     pub count: usize,
@@ -36,7 +36,7 @@ pub struct Wrote {
 
 // The number of a refusal, or 0, the bytes taken and what the reader sees: the desk k, u, t and the ticks, the crew m and the ticks. The rest is 0.
 #[repr(C)]
-#[derive(Drop)]
+#[derive(Clone, Copy)]
 pub struct Seen {
     pub number: u8,
     pub k: u8,
@@ -49,7 +49,7 @@ pub struct Seen {
 
 // All that is written on a pattern sheet.
 #[repr(C)]
-#[derive(Drop)]
+#[derive(Clone, Copy)]
 pub struct PlainSheet {
     pub k: u8,
     pub u: Four,

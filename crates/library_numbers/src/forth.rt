@@ -133,7 +133,7 @@ pub fn shape_of(r: Region) -> Shape
 }
 
 // A place of the walk.
-#[derive(Drop)]
+#[derive(Clone, Copy)]
 pub struct Place {
     pub ended: u8,
     pub v: Four,

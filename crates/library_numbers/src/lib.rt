@@ -1,5 +1,7 @@
 // The bench's session and its answers as plain numbers, for callers that are not Rattle: every value of `State` is some session (specs/Numbers), so that nothing is undefined,
 // whatever a caller hands in. All zeros are the fresh session.
+#![tactic(auto)]
+
 mod answers;
 mod back;
 mod forth;
@@ -12,7 +14,7 @@ pub use tallies::counts_of;
 
 // A point.
 #[repr(C)]
-#[derive(Drop)]
+#[derive(Clone, Copy)]
 pub struct Four {
     pub a: i32,
     pub b: i32,
@@ -22,7 +24,7 @@ pub struct Four {
 
 // An operator.
 #[repr(C)]
-#[derive(Drop)]
+#[derive(Clone, Copy)]
 pub struct Eight {
     pub a: i16,
     pub b: i16,
@@ -36,7 +38,7 @@ pub struct Eight {
 
 // A region. Kind 2 is a rectangle, 3 an ellipse, any other a slice; the fields of the other two do not count.
 #[repr(C)]
-#[derive(Drop)]
+#[derive(Clone, Copy)]
 pub struct Shape {
     pub kind: u8,
     pub n: u16,
@@ -57,7 +59,7 @@ pub struct Shape {
 
 // hi·2^64 + lo.
 #[repr(C)]
-#[derive(Drop)]
+#[derive(Clone, Copy)]
 pub struct Count {
     pub hi: u64,
     pub lo: u64,
@@ -65,14 +67,14 @@ pub struct Count {
 
 // A count for each exponent from 0 to 20.
 #[repr(C)]
-#[derive(Drop)]
+#[derive(Clone, Copy)]
 pub struct Counts {
     pub counts: [Count; 21],
 }
 
 // A session. Stage 1 has the scale, 2 the selection too, 3 region A too, 4 the whole job; any other has read nothing.
 #[repr(C)]
-#[derive(Drop)]
+#[derive(Clone, Copy)]
 pub struct State {
     pub stage: u8,
     pub k: u8,
@@ -87,7 +89,7 @@ pub struct State {
 
 // An answer. Kind 1 is a reading's count of bytes, 2 a hand-out's count and whether the end is reached, 3 done, 4 yes or no, 5 a pattern, any other a refusal by its number.
 #[repr(C)]
-#[derive(Drop)]
+#[derive(Clone, Copy)]
 pub struct Reply {
     pub kind: u8,
     pub number: u8,
@@ -100,7 +102,7 @@ pub struct Reply {
 
 // The session that a call leaves, and its answer.
 #[repr(C)]
-#[derive(Drop)]
+#[derive(Clone, Copy)]
 pub struct Left {
     pub session: State,
     pub reply: Reply,

@@ -1,5 +1,7 @@
 // A session of trays as plain numbers, for callers that are not Rattle: every value of `TrayState` is some session of trays (specs/Numbers), and all zeros are the one without a
 // tray. Each call is that of `tray` on the session that the numbers are, and leaves numbers.
+#![tactic(auto)]
+
 ghost use Rattle.tray_model.specs.Session.{taking, rewind as rewinding, clear as clearing};
 ghost use Rattle.library_trays.specs.Calls.{LeftOf, Leaves, Fills};
 
@@ -11,7 +13,7 @@ use tray::Outcome;
 
 // A session of trays. Where `taken` is 0 there is no tray, and nothing else counts. The tray has the first `count` regions of `a`, eight at most.
 #[repr(C)]
-#[derive(Drop)]
+#[derive(Clone, Copy)]
 pub struct TrayState {
     pub taken: u8,
     pub k: u8,
@@ -25,7 +27,7 @@ pub struct TrayState {
 
 // The session that a call leaves, and its answer.
 #[repr(C)]
-#[derive(Drop)]
+#[derive(Clone, Copy)]
 pub struct TrayLeft {
     pub session: TrayState,
     pub reply: Reply,

@@ -1,4 +1,6 @@
 // The line problem: SPEC, "Line problem".
+#![tactic(auto)]
+
 ghost use Rattle.std.specs.Prelude.{◌≡◌, true, ◌+◌, ◌<◌, ◌≤◌, length};
 ghost use Rattle.std.proofs.lemmas.List.Edits.{sets};
 ghost use Rattle.line.specs.Line.{accepted, within, in_range, span, coordinate, pair_of, Answers};
@@ -17,14 +19,14 @@ const HIGHEST: i32 = line_steps::BOUND as i32;
 pub(crate) const LOWEST: i32 = -HIGHEST;
 
 // Where the pairs begin.
-#[derive(Drop)]
+#[derive(Clone, Copy)]
 pub enum Place {
     Beginning,
     After(i32, i32),
 }
 
 // The count and whether the end is reached, or the refusal 4.
-#[derive(Drop)]
+#[derive(Clone, Copy)]
 pub enum Answer {
     Handed(usize, bool),
     Refused,

@@ -1,4 +1,6 @@
 // A row of a line problem: the b with lo ≤ m·z ≤ hi in two bands, z = a + b√2 in the first and a − b√2 in the second, for a given a.
+#![tactic(auto)]
+
 ghost use Rattle.std.specs.Prelude.{◌≡◌, ℕ, ◌^◌, ◌≤◌, nat_abs};
 ghost use Rattle.ring.specs.RootTwo.Sized.{Sized};
 ghost use Rattle.line_rows.specs.Row.{coordinate, pair_at, above, below, bounded, lower, upper, Small, Near, Least, First};
@@ -7,7 +9,7 @@ use ring::RootTwo;
 use ring_surds::{conjugate, is_nonneg, offset};
 
 // lo ≤ m·z ≤ hi.
-#[derive(Drop)]
+#[derive(Clone, Copy)]
 pub struct Band {
     pub m: i64,
     pub lo: RootTwo,

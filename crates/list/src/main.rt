@@ -1,4 +1,6 @@
 // The list program: SPEC, "List program".
+#![tactic(auto)]
+
 ghost use Rattle.list.specs.Answered.{Answered};
 
 use libc::STDIN_FILENO;

@@ -1,4 +1,6 @@
 // What a whole input comes to: SPEC, "List program".
+#![tactic(auto)]
+
 ghost use Rattle.std.specs.Prelude.{◌≡◌, length};
 ghost use Rattle.session_stages.specs.Session.{meaning, fresh};
 ghost use Rattle.list_input.specs.Load.{loaded_of, load_of};
@@ -8,7 +10,7 @@ use record::Refusal;
 use session::{Answer, Session, Stage};
 
 // A session whose job is whole, or a refusal with its place, or an input of more than 65,536 bytes.
-#[derive(Drop)]
+#[derive(Clone, Copy)]
 pub enum Input {
     Job(Session),
     Refused(Refusal, usize),

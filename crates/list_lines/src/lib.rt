@@ -1,4 +1,6 @@
 // The lines that the list program prints: SPEC, "List program". A hand-out's points, the count at the end, a refusal, an input that is too long.
+#![tactic(auto)]
+
 ghost use Rattle.std.specs.Prelude.{◌≡◌, false, ◌+◌, ◌*◌, ◌<◌, ◌≤◌, length, take};
 ghost use Rattle.io.specs.Counts.{IsPrefixLen};
 ghost use Rattle.text.specs.Append.{Appended};

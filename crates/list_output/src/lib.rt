@@ -1,5 +1,7 @@
 // What the list program writes for an input: SPEC, "List program". The output comes in pieces, each filled into a lent slice: joined they are `output_of` of the
 // input (specs/Joined).
+#![tactic(auto)]
+
 ghost use Rattle.list_states.specs.State.{state_of};
 ghost use Rattle.list_output.specs.Pieces.{Filled};
 

@@ -6,7 +6,7 @@ ghost use Rattle.list_pages.specs.Page.{Paged, page_of, room_in};
 use session::{Answer, Session, Stage};
 
 // One hand-out: the session that it leaves, its count, whether more is to come, and the length of its lines.
-#[derive(Drop)]
+#[derive(Clone, Copy)]
 pub struct Page {
     pub session: Session,
     pub count: usize,

@@ -1,4 +1,6 @@
 // The output of the list program, printed; and the same without the solutions' lines, for timing.
+#![tactic(auto)]
+
 ghost use Rattle.std.specs.Prelude.{◌≡◌, length};
 ghost use Rattle.list_printing.specs.Printed.{Printed, Listed};
 

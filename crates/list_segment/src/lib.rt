@@ -1,4 +1,6 @@
 // A segment of a job's list: its points with a first coordinate from one number to another, as lines on standard output. SPEC, "List program".
+#![tactic(auto)]
+
 ghost use Rattle.std.specs.Prelude.{◌≡◌, false, ◌*◌, ◌≤◌, length, take};
 ghost use Rattle.walk_list.specs.Walk.{full, rank_of};
 ghost use Rattle.ring_points.specs.Slices.{points_of};
@@ -16,7 +18,7 @@ use walk::Spot;
 const LEAST: i32 = -2147483648;
 
 // A piece of lines: where the segment goes on, whether it does, and the length of the lines.
-#[derive(Drop)]
+#[derive(Clone, Copy)]
 struct Piece {
     from: Point,
     more: bool,

@@ -1,4 +1,6 @@
 // Where the list program's output stands, from its start to its end: SPEC, "List program".
+#![tactic(auto)]
+
 ghost use Rattle.std.specs.Prelude.{◌≡◌};
 ghost use Rattle.list_input.specs.Load.{load_of};
 ghost use Rattle.list_states.specs.State.{state_of, done, is_done as doneAt, begin};
@@ -9,7 +11,7 @@ use record::Refusal;
 use session_stages::Session;
 
 // Where the output stands: one line alone; solutions to come, with the number of those before them; the line at the end; nothing more.
-#[derive(Drop)]
+#[derive(Clone, Copy)]
 pub enum Output {
     TooLong,
     Refusal(Refusal, usize),
@@ -19,7 +21,7 @@ pub enum Output {
 }
 
 // A piece of the output, and where it stands after it.
-#[derive(Drop)]
+#[derive(Clone, Copy)]
 pub struct Piece {
     pub next: Output,
     pub length: usize,

@@ -1,4 +1,6 @@
 // Grid operators: SPEC, "Operators". The test, the image of a point, the inverse.
+#![tactic(auto)]
+
 ghost use Rattle.std.specs.Prelude.{◌≡◌, ◌≤◌, nat_abs, pos, ◌*ℤ◌};
 ghost use Rattle.operator.specs.Operator.{identity, in_range, even_parity, special, Tests, image_of, wide};
 ghost use Rattle.operator.specs.Inverse.{adjugate, times, Inverts};
@@ -14,7 +16,7 @@ mod determinant;
 mod sums;
 
 // G(1) as (a, b, c, d) and G(i) as (a', b', c', d') of SPEC, "Operators".
-#[derive(Drop)]
+#[derive(Clone, Copy)]
 pub struct Operator {
     pub a: i16,
     pub b: i16,
@@ -27,7 +29,7 @@ pub struct Operator {
 }
 
 // What the test of an operator says; its number is that of SPEC, "Refusals", 0 where accepted.
-#[derive(Drop)]
+#[derive(Clone, Copy)]
 pub enum Check {
     Special,
     OutOfRange,
@@ -36,7 +38,7 @@ pub enum Check {
 }
 
 // A point of four 64-bit numbers.
-#[derive(Drop)]
+#[derive(Clone, Copy)]
 pub struct WidePoint {
     pub a: i64,
     pub b: i64,
@@ -45,14 +47,14 @@ pub struct WidePoint {
 }
 
 // The same point of 32-bit numbers, where all four fit.
-#[derive(Drop)]
+#[derive(Clone, Copy)]
 pub enum Narrowed {
     Fits(Point),
     TooWide,
 }
 
 // The inverse of a special operator, or the refusal of one that is not.
-#[derive(Drop)]
+#[derive(Clone, Copy)]
 pub enum Inverse {
     Operator(Operator),
     Refused(Check),

@@ -1,4 +1,6 @@
 // Operators as two-by-two matrices of numbers p + q/√2: SPEC, "Operators". Their products and determinants, and those of any matrices.
+#![tactic(auto)]
+
 ghost use Rattle.std.specs.Prelude.{◌≡◌};
 ghost use Rattle.operator_matrices.specs.Matrix.{matrix_of, product_of, determinant_of};
 
@@ -10,14 +12,14 @@ mod matrix;
 pub use bounded::{determinant, product};
 
 // p + q/√2.
-#[derive(Drop)]
+#[derive(Clone, Copy)]
 pub struct Entry {
     pub p: i64,
     pub q: i64,
 }
 
 // The rows of a product of any matrices, and whether they are it.
-#[derive(Drop)]
+#[derive(Clone, Copy)]
 pub struct CheckedProduct {
     pub exact: bool,
     pub first: [Entry; 2],
@@ -25,7 +27,7 @@ pub struct CheckedProduct {
 }
 
 // A determinant of any matrix, and whether it is that.
-#[derive(Drop)]
+#[derive(Clone, Copy)]
 pub struct CheckedDeterminant {
     pub exact: bool,
     pub value: Entry,

@@ -1,4 +1,6 @@
 // The part program: SPEC, "List program".
+#![tactic(auto)]
+
 ghost use Rattle.std.specs.Prelude.{◌≡◌, length};
 ghost use Rattle.system_transfer.specs.Sending.{Sent};
 ghost use Rattle.walk_list.specs.Walk.{full};
@@ -21,7 +23,7 @@ use session::{Session, Stage};
 use text_numeral::Numeral;
 
 // The arguments LO and HI, or others.
-#[derive(Drop)]
+#[derive(Clone, Copy)]
 enum Ends {
     Given(i32, i32),
     Bad,

@@ -1,4 +1,6 @@
 // The pattern program: a job on standard input, its shortest pattern on standard output. SPEC, "Pattern program".
+#![tactic(auto)]
+
 ghost use Rattle.std.specs.Prelude.{◌≡◌, length};
 ghost use Rattle.system_transfer.specs.Sending.{Sent};
 ghost use Rattle.program_filter.specs.Answered.{Answered};

@@ -16,7 +16,7 @@ const LONGEST: u64 = 100;
 const FARTHEST: u64 = 1000000;
 
 // A direction that a slice may have.
-#[derive(Drop)]
+#[derive(Clone, Copy)]
 struct Way {
     x: i16,
     y: i16,

@@ -1,4 +1,6 @@
 // Pattern sheets, their two readers and their writer: document 02, Ticket 14. A reading takes one sheet from the front of the bytes given, or refuses it.
+#![tactic(auto)]
+
 ghost use Rattle.std.specs.Prelude.{◌≡◌, ◌+◌, ◌≤◌, length};
 ghost use Rattle.record_ranges.specs.Ranges.{top_scale};
 ghost use Rattle.pattern_sheet.specs.Sheet.{number_of, k_at, point_ranked, sheet_at, desk_of, crew_of, reading_of};
@@ -19,7 +21,7 @@ const KIND: u8 = 7;
 const LENGTH: usize = 38;
 
 // All that is written on a sheet.
-#[derive(Drop)]
+#[derive(Clone, Copy)]
 pub struct Sheet {
     pub k: u8,
     pub u: Point,
@@ -28,7 +30,7 @@ pub struct Sheet {
 }
 
 // Why a sheet is not read or not written; the numbers are `number_of` of specs/Sheet.
-#[derive(Drop)]
+#[derive(Clone, Copy)]
 pub enum Refusal {
     NoKind,
     NotASheet,
@@ -40,7 +42,7 @@ pub enum Refusal {
 }
 
 // What a reader sees, and the bytes taken: the desk the sheet, the crew its m and its ticks. A refusal takes none.
-#[derive(Drop)]
+#[derive(Clone, Copy)]
 pub enum Reading {
     Desk(Sheet, usize),
     Crew(u64, u32, usize),
@@ -48,7 +50,7 @@ pub enum Reading {
 }
 
 // How many bytes were written.
-#[derive(Drop)]
+#[derive(Clone, Copy)]
 pub enum Writing {
     Wrote(usize),
     Refused(Refusal),

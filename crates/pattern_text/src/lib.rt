@@ -1,4 +1,6 @@
 // The lines of the pattern program: the shortest pattern of the job that an input says, or why there is none.
+#![tactic(auto)]
+
 ghost use Rattle.std.specs.Prelude.{◌≡◌, ◌+◌, [], ◌∷◌, length};
 ghost use Rattle.session_stages.specs.Session.{meaning};
 ghost use Rattle.list_input.specs.Load.{load_of};

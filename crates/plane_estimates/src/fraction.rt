@@ -6,7 +6,7 @@ use plane_lengths::products::{inner, product};
 use plane_lengths::roots::ceil_sqrt;
 
 // p/q: how often the half plane counts.
-#[derive(Drop)]
+#[derive(Clone, Copy)]
 pub struct Fraction {
     pub p: u64,
     pub q: u64,

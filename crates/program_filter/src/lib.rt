@@ -1,4 +1,6 @@
 // What the programs share that print one text for their whole input (specs/Answered).
+#![tactic(auto)]
+
 ghost use Rattle.std.specs.Prelude.{◌≡◌, ◌≤◌, length, take};
 ghost use Rattle.system_transfer.specs.Sending.{Sent};
 ghost use Rattle.system_transfer.specs.Receiving.{Received};

@@ -1,4 +1,6 @@
 // How a program answers arguments that it does not take, `--help` or any other: by its usage on standard error, and nothing else.
+#![tactic(auto)]
+
 ghost use Rattle.std.specs.Prelude.{◌≡◌, true};
 ghost use Rattle.program_usage.specs.Said.{Said};
 

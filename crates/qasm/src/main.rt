@@ -1,4 +1,6 @@
 // The program `qasm`: a word on standard input, its file of OpenQASM 2.0 on standard output. SPEC, "OpenQASM programs".
+#![tactic(auto)]
+
 ghost use Rattle.std.specs.Prelude.{◌≡◌, length};
 ghost use Rattle.system_transfer.specs.Sending.{Sent};
 ghost use Rattle.program_filter.specs.Answered.{Answered};

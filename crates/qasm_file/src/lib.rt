@@ -1,4 +1,6 @@
 // A word as a file of OpenQASM 2.0, and such a file's word: SPEC, "OpenQASM programs".
+#![tactic(auto)]
+
 mod back;
 mod place;
 

@@ -1,4 +1,6 @@
 // The plain question: SPEC, "Questions", searched in the coordinates of an operator.
+#![tactic(auto)]
+
 ghost use Rattle.std.specs.Prelude.{◌≡◌, true, not};
 ghost use Rattle.ranks.specs.Rest.{is_nil};
 ghost use Rattle.region.specs.Region.{accepted_job};

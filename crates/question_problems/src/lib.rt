@@ -1,4 +1,6 @@
 // Line problems: the pairs (p, q) with p + q√2 in one strip and p − q√2 in another, row by row. The pairs stand for the numbers `back` times p + q√2.
+#![tactic(auto)]
+
 ghost use Rattle.std.specs.Prelude.{◌≡◌, ◌^◌, ◌≤◌, false};
 ghost use Rattle.ring.specs.RootTwo.{◌⊟◌, ◌⊠◌};
 ghost use Rattle.ring.specs.RootTwo.Order.{nonneg};
@@ -21,7 +23,7 @@ pub const HALF: u64 = 549755813888;
 pub const TOP: u64 = 1099511627776;
 
 // Two strips, what the pairs are multiplied by, and the first row and the one after the last.
-#[derive(Drop)]
+#[derive(Clone, Copy)]
 pub struct Problem {
     pub first: Band,
     pub second: Band,

@@ -8,7 +8,7 @@ use operator::{Operator, WidePoint};
 pub(crate) const GENERATORS: u64 = 30;
 
 // Four numbers of an operator, where they fit.
-#[derive(Drop)]
+#[derive(Clone, Copy)]
 enum Half {
     Fits(i16, i16, i16, i16),
     TooWide,

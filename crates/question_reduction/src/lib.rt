@@ -1,4 +1,6 @@
 // The reduction, which proposes an operator for a job; operators with their inverses, and the strips that a job has in the coordinates of one.
+#![tactic(auto)]
+
 ghost use Rattle.std.specs.Prelude.{◌≡◌};
 ghost use Rattle.operator.specs.declared.Check.TheVariants.{Special};
 ghost use Rattle.operator.specs.Operator.{check_of};
@@ -14,7 +16,7 @@ pub use reduce::{chosen, is_large, oriented};
 use region::Job;
 
 // An operator and its inverse.
-#[derive(Drop)]
+#[derive(Clone, Copy)]
 pub struct Invertible {
     pub there: Operator,
     pub back: Operator,

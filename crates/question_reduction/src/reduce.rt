@@ -21,7 +21,7 @@ const ONE: u64 = 224;
 const LARGE: u64 = 704;
 
 // An operator, and about how large its boxes are.
-#[derive(Drop)]
+#[derive(Clone, Copy)]
 struct Reached {
     turn: Invertible,
     size: u64,

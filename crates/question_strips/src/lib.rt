@@ -1,4 +1,6 @@
 // What a job's regions say of a coordinate ζ with √2·ζ = typeof.u.X + v·Y: a strip lo ≤ n·ζ ≤ hi for ζ, and one for its conjugate.
+#![tactic(auto)]
+
 ghost use Rattle.std.specs.Prelude.{◌≡◌, true, ◌≤◌};
 ghost use Rattle.ring.specs.RootTwo.{conj};
 ghost use Rattle.ring.specs.RootTwo.Power.{turn};
@@ -17,7 +19,7 @@ use ring::RootTwo;
 use ring_surds::{conjugate, opposite, power, product};
 
 // Of ζ and of its conjugate.
-#[derive(Drop)]
+#[derive(Clone, Copy)]
 pub struct Strips {
     pub first: Band,
     pub second: Band,

@@ -1,4 +1,6 @@
 // Job records: SPEC, "Records". One reading takes one record from the front of the bytes given, or refuses it.
+#![tactic(auto)]
+
 ghost use Rattle.std.specs.Prelude.{◌≡◌, ◌≤◌, length};
 ghost use Rattle.region.specs.Region.{check_of as regionCheck};
 ghost use Rattle.operator.specs.Operator.{check_of as operatorCheck};
@@ -10,7 +12,7 @@ use record_kinds::{Admission, Kind};
 pub use record_kinds::{Refusal, Turn};
 use region::{Ellipse, Rectangle, Region, Slice};
 
-#[derive(Drop)]
+#[derive(Clone, Copy)]
 pub enum Record {
     Scale(u8),
     // Whether all solutions are listed, or only those that are new at the scale.
@@ -20,7 +22,7 @@ pub enum Record {
 }
 
 // A record and the bytes it took, or the refusal, which takes none.
-#[derive(Drop)]
+#[derive(Clone, Copy)]
 pub enum Reading {
     Accepted(Record, usize),
     Refused(Refusal),

@@ -1,4 +1,6 @@
 // Fields of a record, little-endian: read from bytes that the caller knows to be there, and the bytes to write.
+#![tactic(auto)]
+
 ghost use Rattle.std.specs.Prelude.{◌≡◌, ◌+◌, ◌%◌, ◌<◌, ◌≤◌, length};
 ghost use Rattle.record_fields.specs.Field.{unsigned_at, twos, signed_at};
 ghost use Rattle.record_fields.specs.Bytes.{little_endian, bits_of};

@@ -1,4 +1,6 @@
 // The fields of each kind of record, and a record's numbers as its bytes: SPEC, "Records".
+#![tactic(auto)]
+
 ghost use Rattle.std.specs.Prelude.{◌≡◌, true, cond, ◌-◌, ◌%◌, ◌^◌, ◌<◌, ltb, length, take};
 ghost use Rattle.std.specs.Int.Signed.{mag};
 ghost use Rattle.record_forms.specs.Forms.{fields_of, kind_byte, takes as takesOf, takes_all, field_bytes, body_bytes, record_bytes};
@@ -7,14 +9,14 @@ ghost use Rattle.record_forms.specs.Laid.{Laid};
 use record_kinds::Kind;
 
 // A number of a body: signed or not, and how many bytes it has.
-#[derive(Drop)]
+#[derive(Clone, Copy)]
 pub struct Field {
     pub signed: bool,
     pub size: usize,
 }
 
 // The fields of a body, in their order: the first `count`.
-#[derive(Drop)]
+#[derive(Clone, Copy)]
 pub struct Form {
     pub fields: [Field; 8],
     pub count: usize,

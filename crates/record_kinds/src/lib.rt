@@ -1,9 +1,11 @@
 // The kinds of job records, whose turn it is, and what is refused before a body is read: SPEC, "Records" and "Refusals".
+#![tactic(auto)]
+
 ghost use Rattle.std.specs.Prelude.{◌≡◌};
 ghost use Rattle.record_kinds.specs.Kinds.{number as number_of, admission_of, kind_of, is_known, in_turn, is_scale, is_selection, is_region, is_operators, body_length};
 
 // What the first byte of a record says.
-#[derive(Drop)]
+#[derive(Clone, Copy)]
 pub enum Kind {
     Scale,
     Rectangle,
@@ -15,7 +17,7 @@ pub enum Kind {
 }
 
 // What a job waits for: after the scale it is the selection or region A, after the selection only A.
-#[derive(Drop)]
+#[derive(Clone, Copy)]
 pub enum Turn {
     Scale,
     Selection,
@@ -25,7 +27,7 @@ pub enum Turn {
 }
 
 // The refusals of SPEC, "Refusals"; their numbers are `number` of specs/Kinds.
-#[derive(Drop)]
+#[derive(Clone, Copy)]
 pub enum Refusal {
     NoKind,
     UnknownKind,
@@ -63,7 +65,7 @@ impl Refusal {
 }
 
 // Whether a body is read, or what is refused before.
-#[derive(Drop)]
+#[derive(Clone, Copy)]
 pub enum Admission {
     Refused(Refusal),
     Whole,

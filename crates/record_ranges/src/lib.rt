@@ -1,4 +1,6 @@
 // The ranges of SPEC, "Records", as tests of the fields' numbers.
+#![tactic(auto)]
+
 ghost use Rattle.std.specs.Prelude.{◌≡◌};
 ghost use Rattle.record_ranges.specs.Ranges.{between, within, scale, rectangle, ellipse, discriminant, positive, slice, directed, entries};
 

@@ -1,4 +1,6 @@
 // Records as the lines of words that say them: SPEC, "Jobs in words".
+#![tactic(auto)]
+
 ghost use Rattle.std.specs.Prelude.{◌≡◌, ◌*◌, ◌≤◌, length};
 ghost use Rattle.record_kinds.specs.Kinds.{body_length};
 ghost use Rattle.record_forms.specs.Forms.{fields_of, numbers_at};

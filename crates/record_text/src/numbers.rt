@@ -8,7 +8,7 @@ use record_forms::Field;
 use record_kinds::Kind;
 
 // The first `count`.
-#[derive(Drop)]
+#[derive(Clone, Copy)]
 pub(crate) struct Numbers {
     pub(crate) values: [i64; 8],
     pub(crate) count: usize,

@@ -1,4 +1,6 @@
 // How far a region reaches in a direction, what it lies in, and where its outline is, for guesses.
+#![tactic(auto)]
+
 ghost use Rattle.std.specs.Prelude.{◌≡◌, true, ◌≤◌, nat_abs};
 ghost use Rattle.region.specs.Region.{accepted};
 ghost use Rattle.region.specs.Reach.{reach_of};

@@ -1,4 +1,6 @@
 // Which points a job takes by their exponent: SPEC, "Selection".
+#![tactic(auto)]
+
 ghost use Rattle.std.specs.Prelude.{◌≡◌};
 ghost use Rattle.region.specs.Selection.{is_new, selects};
 

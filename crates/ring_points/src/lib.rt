@@ -1,4 +1,6 @@
 // Digits of a point's rank: a coordinate + 2^31; point order; and a point as four numbers of a slice.
+#![tactic(auto)]
+
 ghost use Rattle.std.specs.Prelude.{◌≡◌, ◌+◌, ◌*◌, ◌≤◌, ◌<◌, length};
 ghost use Rattle.std.proofs.lemmas.List.Edits.{sets};
 ghost use Rattle.ring_points.specs.Digits.{span, coordinate, digit};

@@ -1,5 +1,7 @@
 // The sign of p + q√2, without a product, for numbers of one word and of two: the same text at every width. The promise is one, `Signs` over ℤ; `wide_sign_of` keeps it for numbers of two
 // words, and the functions of one word are instances of it, for callers whose numbers fit.
+#![tactic(auto)]
+
 ghost use Rattle.std.specs.Prelude.{◌≡◌, ◌<◌, ◌^◌};
 ghost use Rattle.ring.specs.Sign.{Signs, gap_sign, opposite, turn, of_part, RootNear};
 

@@ -1,4 +1,6 @@
 // Sums, products, conjugates and signs of Z[√2] in 64 bits, and powers of √2, each within the size that its `requires` states.
+#![tactic(auto)]
+
 ghost use Rattle.std.specs.Prelude.{◌≡◌, ◌+◌, ◌<◌, ◌≤◌, ◌^◌, nat_abs, ◌+ℤ◌, ◌-ℤ◌, ◌*ℤ◌};
 ghost use Rattle.ring.specs.RootTwo.{◌⊞◌, ◌⊟◌, ◌⊠◌, neg, conj, num};
 ghost use Rattle.ring.specs.RootTwo.Order.{nonneg};

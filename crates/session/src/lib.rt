@@ -1,4 +1,6 @@
 // A session and its calls, by value: SPEC, "Walk" and "Calls". Each call's contract is one step of the model in `session_model`.
+#![tactic(auto)]
+
 ghost use Rattle.std.specs.Prelude.{[]};
 ghost use Rattle.session_model.specs.Session.{rewind, plain, shortest};
 ghost use Rattle.session_stages.specs.Meaning.{Fits};

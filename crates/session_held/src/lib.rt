@@ -1,4 +1,6 @@
 // A bench's session of one's own, lent to the calls of `session_lent`: each takes the session, lends it for the call, and has it back with the answer.
+#![tactic(auto)]
+
 ghost use Rattle.std.specs.Prelude.{[], ◌≡◌};
 ghost use Rattle.session_model.specs.Session.{reading, rewind as rewinding, clear as clearing, plain, image_of, shortest as shortestOf};
 ghost use Rattle.session_stages.specs.Session.{Steps};

@@ -1,4 +1,6 @@
 // The image question: SPEC, "Questions".
+#![tactic(auto)]
+
 ghost use Rattle.std.specs.Prelude.{◌≡◌, []};
 ghost use Rattle.operator.specs.Operator.{wide};
 ghost use Rattle.region.specs.Selection.{listed};

@@ -1,5 +1,7 @@
 // The calls on the bench's session, which is lent, and which each call moves on: SPEC, "Calls". Each calls the one of `session_tallied` or `session_tallying` that takes it by value,
 // and has the same contract.
+#![tactic(auto)]
+
 ghost use Rattle.std.specs.Prelude.{[], ◌≡◌};
 ghost use Rattle.session_model.specs.Session.{reading, rewind as rewinding, clear as clearing, plain, image_of, shortest as shortestOf};
 ghost use Rattle.session_stages.specs.Session.{Steps};

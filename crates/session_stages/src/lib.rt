@@ -1,4 +1,6 @@
 // What a session has read, what a call answers, and what both mean in the model of `session_model`: SPEC, "Calls". The fresh session, and the call that makes a session fresh.
+#![tactic(auto)]
+
 ghost use Rattle.std.specs.Prelude.{◌≡◌, []};
 ghost use Rattle.session_model.specs.Session.{found, clear};
 ghost use Rattle.session_stages.specs.World.{world, best_of};
@@ -14,7 +16,7 @@ use ring::Point;
 use walk::Spot;
 
 // A job with the place of its walk and the operator that is remembered.
-#[derive(Drop)]
+#[derive(Clone, Copy)]
 pub struct Course {
     pub job: Job,
     pub spot: Spot,
@@ -22,7 +24,7 @@ pub struct Course {
 }
 
 // What a job has before it is whole: nothing, the scale, the scale and which solutions are listed (all, or only the new ones), and these with region A.
-#[derive(Drop)]
+#[derive(Clone, Copy)]
 pub enum Parts {
     Nothing,
     Scaled(u8),
@@ -31,19 +33,19 @@ pub enum Parts {
 }
 
 // What a session has read: parts of a job, or a whole one.
-#[derive(Drop)]
+#[derive(Clone, Copy)]
 pub enum Stage {
     Early(Parts),
     Walking(Course),
 }
 
-#[derive(Drop)]
+#[derive(Clone, Copy)]
 pub struct Session {
     pub stage: Stage,
 }
 
 // What a call answers: a reading the bytes taken, a hand-out its count and whether the end is reached, a question yes or no, the shortest pattern its scale, u and t.
-#[derive(Drop)]
+#[derive(Clone, Copy)]
 pub enum Answer {
     Taken(usize),
     Handed(usize, bool),
@@ -54,7 +56,7 @@ pub enum Answer {
 }
 
 // The session that a call leaves, and its answer.
-#[derive(Drop)]
+#[derive(Clone, Copy)]
 pub struct Outcome {
     pub session: Session,
     pub answer: Answer,

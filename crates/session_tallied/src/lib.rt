@@ -1,4 +1,6 @@
 // The calls on the bench's session (`session_tallying`), by value: each is the one of `session`, and moves the counts on.
+#![tactic(auto)]
+
 ghost use Rattle.std.specs.Prelude.{[]};
 ghost use Rattle.session_model.specs.Session.{reading, rewind as rewinding, plain, image_of, shortest as shortestOf};
 ghost use Rattle.session_stages.specs.Session.{Steps};

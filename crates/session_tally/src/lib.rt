@@ -1,4 +1,6 @@
 // How the points that were handed out spread over the exponents: SPEC, "Tally".
+#![tactic(auto)]
+
 ghost use Rattle.std.specs.Prelude.{◌≡◌, ◌*◌, ◌≤◌, false, ◌-ℤ◌, length, take};
 ghost use Rattle.integers.specs.Parity.{even};
 ghost use Rattle.ring.specs.Point.Exponent.{exponent_of};
@@ -10,7 +12,7 @@ use integers_wide::Size;
 use ring::Point;
 
 // A count of two words for each exponent from 0 to 20.
-#[derive(Drop)]
+#[derive(Clone, Copy)]
 pub struct Tally {
     pub counts: [Size; 21],
 }

@@ -1,5 +1,7 @@
 // The bench's session: a session, and the counts of the points that it handed out since the last rewind or clearing (SPEC, "Tally"); and what each call does to the counts. The calls
 // that search are those of `session_tallied`.
+#![tactic(auto)]
+
 ghost use Rattle.std.specs.Prelude.{◌≡◌, [], cond, ◌*◌, take};
 ghost use Rattle.ring_points.specs.Slices.{points_of};
 ghost use Rattle.session_tally.specs.Spread.{spread, nothing};
@@ -12,14 +14,14 @@ use region::Job;
 use session_stages::{Answer, Session, Stage};
 use session_tally::Tally;
 
-#[derive(Drop)]
+#[derive(Clone, Copy)]
 pub struct Tallied {
     pub session: Session,
     pub tally: Tally,
 }
 
 // The bench's session that a call leaves, and its answer.
-#[derive(Drop)]
+#[derive(Clone, Copy)]
 pub struct Outcome {
     pub session: Tallied,
     pub answer: Answer,

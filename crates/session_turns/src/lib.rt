@@ -1,4 +1,6 @@
 // The turn of a session, what an accepted record does to it, and the call that reads one: SPEC, "Records".
+#![tactic(auto)]
+
 ghost use Rattle.std.specs.Prelude.{◌≡◌, []};
 ghost use Rattle.record.specs.declared.Reading.TheVariants as reading;
 ghost use Rattle.session_model.specs.Session.{joined, remembered};

@@ -1,4 +1,6 @@
 // The program `show`: a job's records on standard input, the words that say them on standard output. SPEC, "Jobs in words".
+#![tactic(auto)]
+
 ghost use Rattle.std.specs.Prelude.{◌≡◌, length};
 ghost use Rattle.system_transfer.specs.Sending.{Sent};
 ghost use Rattle.program_filter.specs.Answered.{Answered};

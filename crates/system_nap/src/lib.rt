@@ -1,4 +1,6 @@
 // A sleep of some milliseconds.
+#![tactic(auto)]
+
 ghost use Rattle.std.specs.Prelude.{◌<◌};
 ghost use Rattle.libc.specs.Io.{Status};
 

@@ -1,4 +1,6 @@
 // Standard output, standard input and files: the loops around the system's calls, one call and one step of the machine (crate system_transfer) a turn.
+#![tactic(auto)]
+
 ghost use Rattle.std.specs.Prelude.{◌≤◌, length};
 ghost use Rattle.system_transfer.specs.Sending.{Turn, Sent};
 

@@ -1,6 +1,8 @@
 // Bytes on their way to the system or from it, as a machine without a system: how many have moved, and what a call's answer makes of it. Over every sequence of
 // answers the bytes that were taken of a text are a beginning of it, and all of it exactly where the machine ends without a failure (specs/Sending); an input is
 // what the reads gave up to the answer 0 (specs/Receiving).
+#![tactic(auto)]
+
 ghost use Rattle.std.specs.Prelude.{◌≡◌, true, false, ◌≤◌};
 ghost use Rattle.system_transfer.specs.Answers.{answer_of};
 ghost use Rattle.system_transfer.specs.Transfer.{begun_of, closed_of, moved_of, put_off_of, step_of};
@@ -11,7 +13,7 @@ use libc::{EAGAIN, EINTR};
 pub use patience::Patience;
 
 // What a call of read or write came to: it moved so many bytes; it would have to wait; a signal came first; it failed.
-#[derive(Drop)]
+#[derive(Clone, Copy)]
 pub enum Answer {
     Moved(usize),
     NotNow,
@@ -20,7 +22,7 @@ pub enum Answer {
 }
 
 // So many bytes of a slice have moved; whether more are to be asked for; whether something failed.
-#[derive(Drop)]
+#[derive(Clone, Copy)]
 pub struct Transfer {
     pub at: usize,
     pub patience: Patience,

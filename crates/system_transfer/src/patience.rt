@@ -2,7 +2,7 @@
 ghost use Rattle.std.specs.Prelude.{◌≡◌, ◌<◌};
 ghost use Rattle.system_transfer.specs.Answers.{full_patience, less_of, pause_after, is_out};
 
-#[derive(Drop)]
+#[derive(Clone, Copy)]
 pub struct Patience {
     pub left: u64,
     pub pause: u64,

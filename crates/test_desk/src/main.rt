@@ -1,4 +1,6 @@
 // Compares tables of another implementation (data/, one row a line) with the calls of `gate_tariff`, `gate_qasm` and `pattern_sheet`, and prints how many rows differ.
+#![tactic(auto)]
+
 mod cells;
 mod quotes;
 mod runs;
@@ -10,7 +12,7 @@ ghost use Rattle.std.specs.Prelude.{◌≤◌, length};
 use cells::Cell;
 use test_rows::Tally;
 
-#[derive(Drop)]
+#[derive(Clone, Copy)]
 enum Table {
     Costs,
     CostRuns,

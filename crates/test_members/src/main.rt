@@ -1,5 +1,7 @@
 // Compares a table of another implementation (data/, one row a line) with what the library says of slices, as A and as B, and prints how many rows differ.
 // Rows `k | A or B | n zx zy w | a b c d | yes or no`.
+#![tactic(auto)]
+
 use console_arguments::{Byte, Four};
 use integers::{Narrow, Short};
 use region::{Job, Rectangle, Region, Slice};
@@ -39,7 +41,7 @@ fn right(s: &[u8], at: usize, row: Row) -> bool {
 }
 
 // A slice, where its numbers fit.
-#[derive(Drop)]
+#[derive(Clone, Copy)]
 enum Side {
     Slice(Slice),
     TooWide,

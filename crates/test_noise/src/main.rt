@@ -1,5 +1,7 @@
 // Bytes of every length from 0 to 70,000: for each what the list program prints. The expected output is the peer's, from its own parser and its own copy of the bytes.
 // Of every third length they are the records of a job and operators, mostly with a byte changed, so that lists and all refusals are met; the others are random.
+#![tactic(auto)]
+
 mod records;
 
 ghost use Rattle.std.specs.Prelude.{◌≡◌, length};

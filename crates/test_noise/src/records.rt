@@ -15,7 +15,7 @@ const RECORDS: [u8; 234] = [
 ];
 
 // Where the records of a job stand, and how many bytes they have.
-#[derive(Drop)]
+#[derive(Clone, Copy)]
 struct Job {
     start: usize,
     len: usize,

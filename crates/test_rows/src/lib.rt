@@ -1,4 +1,6 @@
 // Tables of text, one row a line: reading them, the numbers of a row, and how many rows differ.
+#![tactic(auto)]
+
 ghost use Rattle.std.specs.Prelude.{◌<◌, length};
 ghost use Rattle.io.specs.Counts.{IsPrefixLen};
 
@@ -8,7 +10,7 @@ use text_scan::Number;
 pub const WIDTH: usize = 144;
 
 // The first numbers of a row, how many there are, how many of them stood before each of the first four bars, and where the row ends.
-#[derive(Drop)]
+#[derive(Clone, Copy)]
 pub struct Row {
     pub numbers: [i64; WIDTH],
     pub count: usize,
@@ -17,7 +19,7 @@ pub struct Row {
 }
 
 // How many rows there were, and how many of them differ.
-#[derive(Drop)]
+#[derive(Clone, Copy)]
 pub struct Tally {
     pub rows: u64,
     pub different: u64,

@@ -1,12 +1,14 @@
 // Compares two tables of another implementation (data/, one row a line) with the gate words of the library, and prints how many rows differ:
 // the 192 tails, and words of U and TUT† with the part that is handed back.
+#![tactic(auto)]
+
 mod pairs;
 mod pieces;
 mod tails;
 
 use test_rows::{Row, Tally};
 
-#[derive(Drop)]
+#[derive(Clone, Copy)]
 enum Table {
     Tails,
     Words,

@@ -6,7 +6,7 @@ use ring::Point;
 use test_rows::Row;
 
 // What a row asks for: the scale, u and t, and how many bytes of each slice are lent.
-#[derive(Drop)]
+#[derive(Clone, Copy)]
 struct Asked {
     k: u8,
     u: Point,
@@ -16,7 +16,7 @@ struct Asked {
 }
 
 // The numbers of a row that fit, or not.
-#[derive(Drop)]
+#[derive(Clone, Copy)]
 enum Question {
     Words(Asked),
     TooWide,

@@ -17,7 +17,7 @@ pub fn right(s: &[u8], at: usize, r: Row) -> bool {
 }
 
 // A row's matrix as a state, if its second column is that of one.
-#[derive(Drop)]
+#[derive(Clone, Copy)]
 enum Matrix {
     State(State),
     Other,

@@ -1,5 +1,7 @@
 // Stored jobs (data/) whose lists come from another implementation: for each line of standard input its text, and then what the list program prints for the job of that name.
 // The expected output is made of the stored lists, so one byte that differs fails the run.
+#![tactic(auto)]
+
 use libc::STDIN_FILENO;
 
 fn main() {

@@ -3,14 +3,14 @@ use integers::Narrow;
 use test_rows::{Row, WIDTH};
 
 // The words of a row.
-#[derive(Drop)]
+#[derive(Clone, Copy)]
 pub struct Said {
     refused: bool,
     ended: bool,
 }
 
 // What a call answered: a refusal, or the count, whether it is the end, and how many numbers were handed out.
-#[derive(Drop)]
+#[derive(Clone, Copy)]
 pub enum Given {
     Refused,
     Handed(usize, bool, usize),

@@ -1,4 +1,6 @@
 // Compares tables of another implementation (data/, one row a line) with what the library answers, and prints how many rows differ; then numbers of two words about 2^64 and 2^128.
+#![tactic(auto)]
+
 mod entries;
 mod exponent;
 mod handed;
@@ -9,7 +11,7 @@ mod sign;
 use integers_wide::Size;
 use test_rows::{Row, Tally};
 
-#[derive(Drop)]
+#[derive(Clone, Copy)]
 enum Table {
     Signs,
     Exponents,

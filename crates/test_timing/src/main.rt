@@ -1,4 +1,6 @@
 // Calls on words, to be timed: standard input is a mode, one byte, and a word or a text. The call is made again and again, and the sum of its answers is printed.
+#![tactic(auto)]
+
 use gate_tariff::Tariff;
 use libc::STDIN_FILENO;
 

@@ -1,4 +1,6 @@
 // Text: bytes and decimal numbers written to a slice that the caller lends.
+#![tactic(auto)]
+
 mod wide;
 mod write;
 

@@ -8,7 +8,7 @@ use crate::write::put_bytes;
 use integers_wide::Size;
 
 // A tenth of a number, rounded down, and its last digit.
-#[derive(Drop)]
+#[derive(Clone, Copy)]
 struct Tenth {
     quotient: Size,
     digit: u8,

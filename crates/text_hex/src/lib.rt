@@ -1,9 +1,11 @@
 // Hexadecimal pairs: the bytes that a word spells, written to a slice that the caller lends, and the digits that spell bytes.
+#![tactic(auto)]
+
 ghost use Rattle.std.specs.Prelude.{◌≡◌, true, ◌/◌, ◌<◌, ◌≤◌, length, drop, ◌++◌};
 ghost use Rattle.text_hex.specs.Hex.{digit_of, all_hex, pairs, is_hex, hex_of, hex_written};
 
 // How many bytes a word spells.
-#[derive(Drop)]
+#[derive(Clone, Copy)]
 pub enum Hex {
     Bytes(usize),
     Bad,

@@ -1,24 +1,26 @@
 // The lines of an input, gathered byte by byte in a lent slice, however the input comes cut. A line that is longer than the slice is passed over, and said to be too
 // long where it ends. The lines said are those of the input, each once and in order (specs/Gathered).
+#![tactic(auto)]
+
 ghost use Rattle.std.specs.Prelude.{◌≡◌};
 ghost use Rattle.text_input_lines.specs.Gathered.{none, whole_of, last_of, is_said, Stepped, Grown};
 
 // So many bytes of a line stand at the start of the slice; whether the line is longer than the slice.
-#[derive(Drop)]
+#[derive(Clone, Copy)]
 pub struct Gathered {
     pub length: usize,
     pub long: bool,
 }
 
 // What a byte, or the end of the input, completes: the line of so many bytes at the start of the slice; a line that is too long; nothing.
-#[derive(Drop)]
+#[derive(Clone, Copy)]
 pub enum Said {
     Line(usize),
     TooLong,
     Nothing,
 }
 
-#[derive(Drop)]
+#[derive(Clone, Copy)]
 pub struct Step {
     pub next: Gathered,
     pub said: Said,

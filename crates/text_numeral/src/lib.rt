@@ -1,11 +1,13 @@
 // A word that is a whole number of 32 bits in decimal, as an argument of a program: SPEC, "List program".
+#![tactic(auto)]
+
 ghost use Rattle.std.specs.Prelude.{◌≡◌, cond};
 ghost use Rattle.text_numeral.specs.Numeral.{numeral_of, narrowed, word_number, none};
 
 use text_scan::Number;
 
 // A number, or no number of 32 bits.
-#[derive(Drop)]
+#[derive(Clone, Copy)]
 pub enum Numeral {
     Value(i32),
     Bad,

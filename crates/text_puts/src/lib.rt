@@ -1,4 +1,6 @@
 // Texts that several programs print, put after a place of a lent slice (specs/Puts).
+#![tactic(auto)]
+
 ghost use Rattle.std.specs.Prelude.{◌≡◌, ◌+◌, length};
 ghost use Rattle.text.specs.Written.{written, after};
 ghost use Rattle.text_puts.specs.Puts.{Puts};

@@ -1,4 +1,6 @@
 // Reading: the number at a place, and the places where a run of spaces or a line ends.
+#![tactic(auto)]
+
 ghost use Rattle.std.specs.Prelude.{ℕ, ◌+◌, ◌^◌, ◌≤◌, min, ◌≡◌, pos, neg_ℤ};
 ghost use Rattle.integers_wide.specs.Meaning.{size_of};
 ghost use Rattle.text_scan.specs.Run.{end_of_run, is_byte, spaces_from, word_end, line_end};
@@ -7,28 +9,28 @@ ghost use Rattle.text_scan.specs.Number.{is_digit, digits_at, with_digit, value_
 use integers_wide::{Size, Wide};
 
 // A number's value with the place after it, or no number that fits one word.
-#[derive(Drop)]
+#[derive(Clone, Copy)]
 pub enum Number {
     Value(i64, usize),
     Bad,
 }
 
 // A number's value with the place after it, or no number that fits two words.
-#[derive(Drop)]
+#[derive(Clone, Copy)]
 pub enum WideNumber {
     Value(Wide, usize),
     Bad,
 }
 
 // The value of a run of digits, above 2^127 any that is, and the place after it.
-#[derive(Drop)]
+#[derive(Clone, Copy)]
 struct Digits {
     value: Size,
     end: usize,
 }
 
 // A minus or not, the value of the digits and the place after them; or no digit.
-#[derive(Drop)]
+#[derive(Clone, Copy)]
 enum Spelled {
     Digits(bool, Size, usize),
     Nothing,

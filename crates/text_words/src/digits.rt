@@ -5,7 +5,7 @@ ghost use Rattle.text_words.specs.Bytes.{dash_of, dash_written, last_of, last_wr
 use text_hex::Hex;
 
 // The bytes that a word spells, and where the next word begins.
-#[derive(Drop)]
+#[derive(Clone, Copy)]
 pub struct Spelled {
     pub hex: Hex,
     pub next: usize,

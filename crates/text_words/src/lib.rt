@@ -1,4 +1,6 @@
 // The words of a line of the console: the command that the first one names, and the numbers and the bytes after it.
+#![tactic(auto)]
+
 mod digits;
 
 ghost use Rattle.std.specs.Prelude.{◌^◌, ◌≤◌, ◌≡◌, true, false, length};
@@ -86,7 +88,7 @@ pub const PRODUCT: usize = 35;
 pub const DETERMINANT: usize = 36;
 
 // Numbers of a line, at most 16, where the words are good, and where the word after them begins.
-#[derive(Drop)]
+#[derive(Clone, Copy)]
 pub struct Numbers {
     pub values: [i64; 16],
     pub count: usize,
@@ -95,14 +97,14 @@ pub struct Numbers {
 }
 
 // Two numbers of two words.
-#[derive(Drop)]
+#[derive(Clone, Copy)]
 pub enum Pair {
     Both(Wide, Wide),
     Bad,
 }
 
 // The length of a slice to be lent.
-#[derive(Drop)]
+#[derive(Clone, Copy)]
 pub enum Slice {
     Length(usize),
     TooLong,

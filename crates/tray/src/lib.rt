@@ -1,4 +1,6 @@
 // A session of trays and its calls, by value: SPEC, "Trays". Each call's contract is one step of the model in `tray_model`.
+#![tactic(auto)]
+
 ghost use Rattle.std.specs.Prelude.{◌≡◌, []};
 ghost use Rattle.tray_model.specs.Session.{taking as takingOf, handOut, rewind as rewinding, clear as clearing, given, done, walking};
 ghost use Rattle.ranks.specs.Rest.{at, left_at};
@@ -15,20 +17,20 @@ use tray_taking::Verdict;
 use walk::Spot;
 
 // Whether a tray was taken, and where its walk stands.
-#[derive(Drop)]
+#[derive(Clone, Copy)]
 pub enum Stage {
     Early,
     Walking(Spot),
 }
 
-#[derive(Drop)]
+#[derive(Clone, Copy)]
 pub struct Session {
     pub stage: Stage,
     pub tray: Tray,
 }
 
 // What a call answers: a take the number of regions, a hand-out its count and whether the end is reached.
-#[derive(Drop)]
+#[derive(Clone, Copy)]
 pub enum Answer {
     Taken(usize),
     Handed(usize, bool),
@@ -37,7 +39,7 @@ pub enum Answer {
 }
 
 // The session that a call leaves, and its answer.
-#[derive(Drop)]
+#[derive(Clone, Copy)]
 pub struct Outcome {
     pub session: Session,
     pub answer: Answer,

@@ -1,5 +1,7 @@
 // The calls on a session of trays that is lent, and which each call moves on: SPEC, "Trays". Each calls the one of `tray` that takes it by value, and has the
 // same contract.
+#![tactic(auto)]
+
 ghost use Rattle.std.specs.Prelude.{[]};
 ghost use Rattle.tray_model.specs.Session.{rewind as rewinding, clear as clearing};
 ghost use Rattle.tray.specs.Session.{Steps, Takes, Hands};

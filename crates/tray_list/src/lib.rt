@@ -1,17 +1,19 @@
 // Trays: one scale, one selection and one region B with one to eight regions A, and the points that at least one of their jobs lists: SPEC, "Trays".
+#![tactic(auto)]
+
 ghost use Rattle.std.specs.Prelude.{◌≡◌, ◌<◌};
 ghost use Rattle.tray_list.specs.Tray.{job_at, size};
 
 use region::{Job, Region};
 
 // A region A of a tray.
-#[derive(Drop)]
+#[derive(Clone, Copy)]
 pub struct Target {
     pub region: Region,
 }
 
 // The first count targets are the tray's.
-#[derive(Drop)]
+#[derive(Clone, Copy)]
 pub struct Tray {
     pub k: u8,
     pub all: bool,

@@ -18,7 +18,7 @@ use walk::{Handed, Prepared, Spot};
 const LANE: usize = 512;
 
 // A region's job, and if it is near, made ready for hand-outs.
-#[derive(Drop)]
+#[derive(Clone, Copy)]
 pub(crate) struct Source {
     pub job: Job,
     pub near: bool,
@@ -26,13 +26,13 @@ pub(crate) struct Source {
 }
 
 // Where a region's walk goes on behind its queue.
-#[derive(Drop)]
+#[derive(Clone, Copy)]
 pub(crate) struct Mark {
     pub spot: Spot,
 }
 
 // A lane behind a point: 1 if the point was its front, else 0; the place of its front, and the front.
-#[derive(Drop)]
+#[derive(Clone, Copy)]
 struct Behind {
     held: u32,
     at: usize,
@@ -40,7 +40,7 @@ struct Behind {
 }
 
 // All lanes behind a point: the regions that listed it, and the nearest of the points that are queued.
-#[derive(Drop)]
+#[derive(Clone, Copy)]
 pub(crate) struct Step {
     pub mask: u32,
     pub spot: Spot,

@@ -1,4 +1,6 @@
 // The walk of a tray: SPEC, "Trays". The lists of its regions' jobs, each in point order, are merged into one; a point comes once, with the regions that list it.
+#![tactic(auto)]
+
 ghost use Rattle.std.specs.Prelude.{◌≡◌, ◌+◌, ◌*◌, ◌/◌, ◌≤◌, ◌<◌, min, pos, length, set};
 ghost use Rattle.std.proofs.lemmas.List.Edits.{sets};
 ghost use Rattle.ranks.specs.Rest.{left_at};

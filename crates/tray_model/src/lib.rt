@@ -1,1 +1,3 @@
 // The model of a session of trays and its theorems: SPEC, "Trays". There is no function here.
+#![tactic(auto)]
+

@@ -1,4 +1,6 @@
 // Taking a tray: SPEC, "Trays". The scale and the selection come as numbers, one to eight regions A back to back in one byte part, region B in another.
+#![tactic(auto)]
+
 ghost use Rattle.std.specs.Prelude.{◌≡◌, [], ◌∷◌};
 ghost use Rattle.tray_list.specs.Tray.{blank as blankTarget};
 ghost use Rattle.tray_taking.specs.Taking.{number_of, found_in, one_of, regions_of, padded_of, read_of, second_of, takes, take_of, no_tray};
@@ -8,7 +10,7 @@ use region::{Rectangle, Region};
 use tray_list::{Target, Tray};
 
 // Why a take is refused: as a record is read, or by the form of the parts: no byte of A, a ninth A, or bytes behind B.
-#[derive(Drop)]
+#[derive(Clone, Copy)]
 pub enum Refusal {
     Record(record::Refusal),
     Form,
@@ -25,28 +27,28 @@ impl Refusal {
     }
 }
 
-#[derive(Drop)]
+#[derive(Clone, Copy)]
 pub enum Verdict {
     Taken,
     Refused(Refusal),
 }
 
 // A tray that was taken; where it is refused the tray says nothing.
-#[derive(Drop)]
+#[derive(Clone, Copy)]
 pub struct Answer {
     pub verdict: Verdict,
     pub tray: Tray,
 }
 
 // One region record with the bytes it took, or its refusal.
-#[derive(Drop)]
+#[derive(Clone, Copy)]
 pub enum Found {
     Region(Region, usize),
     Refused(record::Refusal),
 }
 
 // What the records of A come to.
-#[derive(Drop)]
+#[derive(Clone, Copy)]
 pub struct Records {
     pub verdict: Verdict,
     pub count: usize,

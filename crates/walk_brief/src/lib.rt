@@ -1,4 +1,6 @@
 // Brief: a brief look for a listed point, any one, which stops at one, at the end, or when its fuel is spent.
+#![tactic(auto)]
+
 ghost use Rattle.std.specs.Prelude.{◌≡◌, []};
 ghost use Rattle.walk_list.specs.Walk.{full};
 ghost use Rattle.walk_brief.specs.Brief.{Looks};
@@ -8,7 +10,7 @@ mod steps;
 use region::Job;
 
 // What a brief look for a point of the list comes to: the number is the fuel that is left.
-#[derive(Drop)]
+#[derive(Clone, Copy)]
 pub enum Look {
     Found,
     Nothing(u64),
