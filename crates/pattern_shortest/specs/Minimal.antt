@@ -42,7 +42,7 @@ has_entry_lem : (k : ℕ) (v w : Point) → k ≤ top_scale → completes k v w 
 has_entry_lem k v w ok e = go (full k v) refl
   where
     go : (l : List ℕ) → full k v ≡ l → not (is_nil l) ≡ true
-    go [] f = let h = (full-holds k ok v w).0 e in absurd (Memᴰ.not_nil (rw f at h.held))
+    go [] f = let h = (full-holds k ok v w).0 e in absurd (Memᴰ.not-nil (rw f at h.held))
     go (r ∷ l) f = refl
 
 qualified : (j : Job) (i : ℕ) (u t : Point) → Pairs j i u t → is_new i u ≡ true → qualifies (at j i) u ≡ true
@@ -84,7 +84,7 @@ some-found j v h e = go (passing (qualifies j) 0) refl
     one r (s ∷ l) f n m = let z : ◌≡◌ {A = ℕ} 0 1 = cc in omega arith
 
     go : (l : List ℕ) → passing (qualifies j) 0 ≡ l → ⊥
-    go [] f = let m = (all_hold (qualifies j) (qualifies-fits j) v).0 h in Memᴰ.not_nil (rw f at m.held)
+    go [] f = let m = (all_hold (qualifies j) (qualifies-fits j) v).0 h in Memᴰ.not-nil (rw f at m.held)
     go (r ∷ l) f = one r (full j.k (point_of r)) refl (qualifies-entry j (point_of r) (listed-qualifies j r l f)) (ap (first_of j.k) (sym f) ∙ e)
 
 found-sound : (j : Job) (u t : Point) → found_at j ≡ F.At u t → (qualifies j u ≡ true) × (completes j.k u t ≡ true)

@@ -19,13 +19,13 @@ pub record Listed (l : List ℕ) (v : Point) : Type 0 where
 
 -- the points of the ranks are just those that are in it
 pub listed-there : (l : List ℕ) (v : Point) → Memᴰ v (map point_of l) → Listed l v
-listed-there [] v m = absurd (Memᴰ.not_nil m)
+listed-there [] v m = absurd (Memᴰ.not-nil m)
 listed-there (r ∷ l) v m =
     ⊎_elim (λ e. record { at = r; held = Memᴰ.head refl; point = sym e }) (λ k. let h = listed-there l v k in record { at = h.at; held = Memᴰ.tail h.held; point = h.point })
     (Memᴰ.cases_cons m)
 
 held_there : (l : List ℕ) (v : Point) (r : ℕ) → Memᴰ r l → point_of r ≡ v → Memᴰ v (map point_of l)
-held_there [] v r m e = absurd (Memᴰ.not_nil m)
+held_there [] v r m e = absurd (Memᴰ.not-nil m)
 held_there (q ∷ l) v r m e = ⊎_elim (λ f. Memᴰ.head (sym e ∙ ap point_of f)) (λ k. Memᴰ.tail (held_there l v r k e)) (Memᴰ.cases_cons m)
 
 pub there_listed : (l : List ℕ) (v : Point) → Listed l v → Memᴰ v (map point_of l)
@@ -66,7 +66,7 @@ module _ (t : Point → Bool) (fits : (v : Point) → t v ≡ true → Fits32 v)
   all-empty = ((λ e v. none v e (t v) refl), (λ h. nothing (passing t 0) h (λ v. (all_hold v).1)))
     where
       none : (v : Point) → passing t 0 ≡ [] → (b : Bool) → t v ≡ b → b ≡ false
-      none v e true i = let k = (all_hold v).0 i in absurd (Memᴰ.not_nil (subst (λ l. Memᴰ k.at l) e k.held))
+      none v e true i = let k = (all_hold v).0 i in absurd (Memᴰ.not-nil (subst (λ l. Memᴰ k.at l) e k.held))
       none v e false i = refl
 
       nothing : (l : List ℕ) → ((v : Point) → t v ≡ false) → ((v : Point) → Listed l v → t v ≡ true) → l ≡ []

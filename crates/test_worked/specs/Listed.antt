@@ -162,7 +162,7 @@ module _ (t f : Point → Bool) (is : (v : Point) → t v ≡ f v) (fits : (v : 
   passes p i = is p ∙ is_true _ i
 
   mem-passes : (ps : List Point) → T (every_passes f ps) → (r : ℕ) → Memᴰ r (ranks_of ps) → t (point_of r) ≡ true
-  mem-passes [] i r m = absurd (Memᴰ.not_nil m)
+  mem-passes [] i r m = absurd (Memᴰ.not-nil m)
   mem-passes (p ∷ ps) i r m =
       let s = passes p (both_left (f p) (every_passes f ps) i) in
       ⊎_elim (λ e. ap (λ (n : ℕ). t (point_of n)) e ∙ ap t (point-rank p (fits p s)) ∙ s) (λ k. mem-passes ps (both_right (f p) (every_passes f ps) i) r k) (Memᴰ.cases_cons m)

@@ -3,7 +3,7 @@ use Prim.Native.Nat.{◌-◌}
 use mathlib.Core.Path.{◌≡◌, refl, sym, ◌∙◌}
 use native.Mathlib.Omega.{arith}
 use borrow.Author.Rules.{rules}
-use borrow.Author.Tests.{not_true, not-false}
+use borrow.Author.Tests.{not-true, not-false}
 use lib.ListN.{length, drop}
 use Rattle.gate_alphabet.specs.Letters.{are_letters, are_end, are_not, are_more}
 use Rattle.gate_alphabet.proofs.are_letters.Statement.{statement}
@@ -28,7 +28,7 @@ returns : tie.Need-returns invariant-loop decreases-loop
 returns c =
     let l = c.before.before.before.before in
     let w = l.before.before.args.word.now in
-    sym (are_not w l.loop.i (omega arith) (sym c.before.is-letter.ensures ∙ not_true _ c.if1.true)) ∙ l.loop.invariant
+    sym (are_not w l.loop.i (omega arith) (sym c.before.is-letter.ensures ∙ not-true _ c.if1.true)) ∙ l.loop.invariant
 
 add-i : tie.Need-overflow-add-i invariant-loop decreases-loop
 add-i c = search rules

@@ -1,6 +1,6 @@
 use mathlib.Core.Path.{◌≡◌, sym, ◌∙◌}
 use mathlib.Core.Bool.{true}
-use borrow.Author.Tests.{not_true, not-false}
+use borrow.Author.Tests.{not-true, not-false}
 use Rattle.gate_qasm.specs.Text.{is_text}
 use Rattle.gate_qasm.proofs.Answers.{read_none, read-full, read_done}
 use borrow.Author.Rules.{rules}
@@ -13,7 +13,7 @@ is-text-requires c κs = search rules
 returns : tie.Need-returns
 returns c =
     let s = c.before.before.before.before in
-    read_none s.args.text.now s.args.word.now (sym c.before.is-text.ensures ∙ not_true _ c.if1.true)
+    read_none s.args.text.now s.args.word.now (sym c.before.is-text.ensures ∙ not-true _ c.if1.true)
 
 -- past the first test the text is one
 good : (c : tie.Else1) → is_text c.before.before.before.before.args.text.now ≡ true
@@ -30,7 +30,7 @@ returns-2 c =
     let p = c.before.before.before in
     let e = p.before.before in
     let s = e.before.before.before.before in
-    read-full s.args.text.now s.args.word.now (good e) (sym p.put_word.ensures.0 ∙ not_true _ c.if2.true) p.put_word.ensures.1
+    read-full s.args.text.now s.args.word.now (good e) (sym p.put_word.ensures.0 ∙ not-true _ c.if2.true) p.put_word.ensures.1
 
 same-length-2 : tie.Need-same-length-2
 same-length-2 c = search rules

@@ -3,7 +3,7 @@ use mathlib.Core.Bool.{true}
 use Prim.Native.Nat.{◌/◌, ◌≤◌}
 use native.Mathlib.Omega.{arith}
 use lib.ListN.{length}
-use borrow.Author.Tests.{not_true, not-false, leb-true, leb-false}
+use borrow.Author.Tests.{not-true, not-false, leb-true, leb-false}
 use Rattle.gate_alphabet.specs.Letters.{are_letters}
 use Rattle.gate_qasm.proofs.Answers.{write_none, write_full, write_done}
 use borrow.Author.Rules.{rules}
@@ -19,7 +19,7 @@ lines-of-requires c κs = search rules
 returns : tie.Need-returns
 returns c =
     let s = c.before.before.before.before.before in
-    write_none s.args.word.now s.args.text.now (sym c.before.before.are-letters.ensures ∙ not_true _ c.if1.true)
+    write_none s.args.word.now s.args.text.now (sym c.before.before.are-letters.ensures ∙ not-true _ c.if1.true)
 
 -- past the first test the word is letters
 good : (c : tie.Else1) → are_letters c.before.before.before.before.before.args.word.now ≡ true
@@ -29,7 +29,7 @@ returns-2 : tie.Need-returns-2
 returns-2 c =
     let n = c.before.before in
     let s = c.before.before.before.before.before.before in
-    write_full s.args.word.now s.args.text.now (good c.before) n.lines_of.result n.lines_of.ensures (leb-false _ _ (not_true _ c.if2.true))
+    write_full s.args.word.now s.args.text.now (good c.before) n.lines_of.result n.lines_of.ensures (leb-false _ _ (not-true _ c.if2.true))
 
 -- past the second the text has room
 room : (c : tie.Else2) → c.before.before.lines_of.result ≤ length c.before.before.before.before.before.before.args.text.now / 8

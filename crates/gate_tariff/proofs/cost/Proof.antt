@@ -1,5 +1,5 @@
 use mathlib.Core.Path.{sym, ap, ◌∙◌}
-use borrow.Author.Tests.{not_true, not-false}
+use borrow.Author.Tests.{not-true, not-false}
 use Rattle.gate_tariff.specs.Tariff.{answered, cost_of}
 use Rattle.gate_tariff.proofs.Prices.{cost_price, ticks_fit}
 use borrow.Author.Rules.{rules}
@@ -10,7 +10,7 @@ in-range-requires : tie.Need-in-range-requires
 in-range-requires c κs = search rules
 
 returns : tie.Need-returns
-returns c = cost_price _ _ _ (sym c.before.in-range.ensures ∙ not_true _ c.if1.true)
+returns c = cost_price _ _ _ (sym c.before.in-range.ensures ∙ not-true _ c.if1.true)
 
 word-ticks-requires : tie.Need-word-ticks-requires
 word-ticks-requires c κs = sym c.before.in-range.ensures ∙ not-false _ c.if1.false

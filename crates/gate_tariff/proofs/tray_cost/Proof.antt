@@ -1,6 +1,6 @@
 use mathlib.Core.Path.{◌≡◌, sym, ap, ◌∙◌}
 use mathlib.Core.Bool.{true}
-use borrow.Author.Tests.{not_true, not-false}
+use borrow.Author.Tests.{not-true, not-false}
 use lib.ListN.{length}
 use Rattle.gate_tariff.specs.Tariff.{in_range, answered}
 use Rattle.gate_tariff.specs.Tray.{is_tray, words_of}
@@ -27,7 +27,7 @@ priced : (c : tie.Else2) → in_range c.before.before.before.before.before.args.
 priced c = sym c.before.before.in-range.ensures ∙ not-false _ c.if2.false
 
 returns-2 : tie.Need-returns-2
-returns-2 c = tray_price _ _ _ (filled c.before).0 (sym c.before.before.in-range.ensures ∙ not_true _ c.if2.true)
+returns-2 c = tray_price _ _ _ (filled c.before).0 (sym c.before.before.in-range.ensures ∙ not-true _ c.if2.true)
 
 total-requires : tie.Need-total-requires
 total-requires c κs = (priced c, (filled c.before).0, (filled c.before).1)

@@ -1,7 +1,7 @@
 use native.Mathlib.Omega.{arith}
 use mathlib.Core.Path.{sym}
 use lib.Seq.{length-take-le}
-use borrow.Author.Tests.{not_true, not-false}
+use borrow.Author.Tests.{not-true, not-false}
 use Rattle.job_words.specs.Laws.{laid_none, bytes-blank, bytes-bad, bytes-said}
 use borrow.Author.Rules.{rules}
 use Rattle.job_words.proofs.put_row.Statement.{statement}
@@ -14,7 +14,7 @@ returns : tie.Need-returns
 returns c = rw (bytes-blank c.before.row_of.ensures c.if1.true) (laid_none c.before.before.before.before.args.out.now c.before.before.before.before.args.at)
 
 returns-2 : tie.Need-returns-2
-returns-2 c = rw (bytes-bad c.before.before.before.row_of.ensures c.before.before.if1.false (not_true _ c.if2.true)) (laid_none c.before.before.before.before.before.before.args.out.now c.before.before.before.before.before.before.args.at)
+returns-2 c = rw (bytes-bad c.before.before.before.row_of.ensures c.before.before.if1.false (not-true _ c.if2.true)) (laid_none c.before.before.before.before.before.before.args.out.now c.before.before.before.before.before.before.args.at)
 
 array-share-prefix-numbers : tie.Need-array-share-prefix-numbers
 array-share-prefix-numbers c = let h = c.before.before.before.before.before.row_of.ensures.few in let w = c.before.before.before.before.before.row_of.ensures.wide in omega arith

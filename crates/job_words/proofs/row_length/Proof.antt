@@ -1,6 +1,6 @@
 use native.Mathlib.Omega.{arith}
 use mathlib.Core.Path.{sym}
-use borrow.Author.Tests.{not_true, not-false}
+use borrow.Author.Tests.{not-true, not-false}
 use Rattle.job_words.specs.Laws.{length-blank, length-bad, length-said, small}
 use borrow.Author.Rules.{rules}
 use Rattle.job_words.proofs.row_length.Statement.{statement}
@@ -13,7 +13,7 @@ returns : tie.Need-returns
 returns c = (sym (length-blank c.before.row_of.ensures c.if1.true), omega arith)
 
 returns-2 : tie.Need-returns-2
-returns-2 c = (sym (length-bad c.before.before.before.row_of.ensures c.before.before.if1.false (not_true _ c.if2.true)), omega arith)
+returns-2 c = (sym (length-bad c.before.before.before.row_of.ensures c.before.before.if1.false (not-true _ c.if2.true)), omega arith)
 
 body-length-requires : tie.Need-body-length-requires
 body-length-requires c κs = search rules

@@ -46,7 +46,7 @@ pair-once r q e =
 
 those-holds : (t : ℕ → Bool) (r : ℕ) (l : List ℕ) → Memᴰ r (those t l) ↔ (Memᴰ r l × (t r ≡ true))
 unfolding those
-those-holds t r [] = ((λ m. absurd (Memᴰ.not_nil m)), λ w. absurd (Memᴰ.not_nil w.0))
+those-holds t r [] = ((λ m. absurd (Memᴰ.not-nil m)), λ w. absurd (Memᴰ.not-nil w.0))
 those-holds t r (q ∷ l) = go (t q) refl (those-holds t r l)
   where
     go : (b : Bool) → t q ≡ b → Memᴰ r (those t l) ↔ (Memᴰ r l × (t r ≡ true))

@@ -2,7 +2,7 @@
 use mathlib.Core.Path.{◌≡◌, sym, ◌∙◌}
 use mathlib.Core.List.{[]}
 use native.Mathlib.Omega.{arith}
-use borrow.Author.Tests.{not_true, not-false}
+use borrow.Author.Tests.{not-true, not-false}
 use lib.ListN.{length}
 use lib.Seq.{length-take-le}
 use Rattle.text.specs.Append.{appended_within}
@@ -48,14 +48,14 @@ returns : tie.Need-returns invariant-loop decreases-loop
 returns c =
     let k = c.before.before in
     let n = k.before.before.before.before in
-    stop n.before.before.before.before.loop.invariant.1 n.next.ensures k.print.ensures (not_true _ c.before.if2.true)
+    stop n.before.before.before.before.loop.invariant.1 n.next.ensures k.print.ensures (not-true _ c.before.if2.true)
 
 loop-less : tie.Need-loop-smaller invariant-loop decreases-loop
 loop-less c =
     let n = c.before.before.before.before.before in
     let t = n.before.before in
     let l = t.before.before in
-    let d = not_true _ t.if1.true in
+    let d = not-true _ t.if1.true in
     let e = sym t.before.is-done.ensures ∙ d in
     let h = l.loop.invariant.0 in
     rw n.next.ensures.next (piece_less (length l.loop.out) (state_of l.loop.o) (omega arith) e)

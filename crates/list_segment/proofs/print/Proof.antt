@@ -4,7 +4,7 @@ use mathlib.Core.Bool.{Bool, false, cond}
 use mathlib.Core.List.{List, []}
 use Prim.Native.Nat.{ℕ}
 use native.Mathlib.Omega.{arith}
-use borrow.Author.Tests.{not_true, not-false}
+use borrow.Author.Tests.{not-true, not-false}
 use lib.IntN.{ℤ}
 use lib.ListN.{length}
 use lib.Seq.{length-take-le}
@@ -81,7 +81,7 @@ returns c =
     let n = k.before.before.before.before in
     let p = n.page.ensures in
     let s = start n in
-    rw (to_z-of_z s.fits.hi, to_z-of_z s.fits.lo) at (stop (rank_lines s.args.job.k (remains_after p)) (going n) (paged_lines p) k.print.ensures (not_true _ c.before.if1.true))
+    rw (to_z-of_z s.fits.hi, to_z-of_z s.fits.lo) at (stop (rank_lines s.args.job.k (remains_after p)) (going n) (paged_lines p) k.print.ensures (not-true _ c.before.if1.true))
 
 loop-less : tie.Need-loop-smaller invariant-loop decreases-loop
 loop-less c =

@@ -1,7 +1,7 @@
 -- `of_job` meets its contract. Assumes nothing.
 use mathlib.Core.Path.{◌≡◌, sym, ◌∙◌}
 use mathlib.Core.Bool.{true}
-use borrow.Author.Tests.{not_true, not-false}
+use borrow.Author.Tests.{not-true, not-false}
 use mir.Facts.{to_z-of_z}
 use Rattle.ranks.specs.Rest.{is_nil}
 use Rattle.walk_list.specs.Walk.{full}
@@ -16,7 +16,7 @@ has-solution-requires c κs = search rules
 returns : tie.Need-returns
 returns c =
     let h = c.before in
-    let e : is_nil (full h.before.args.job) ≡ true = not-false _ (sym h.has-solution.ensures ∙ not_true _ c.if1.true) in
+    let e : is_nil (full h.before.args.job) ≡ true = not-false _ (sym h.has-solution.ensures ∙ not-true _ c.if1.true) in
     printed_empty h.before.args.lo h.before.args.hi h.before.args.job.k (full h.before.args.job) e
 
 print-requires : tie.Need-print-requires

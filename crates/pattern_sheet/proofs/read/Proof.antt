@@ -3,7 +3,7 @@ use lib.Dec.{leb}
 use Rattle.record_ranges.specs.Ranges.{top_scale}
 use Rattle.pattern_sheet.specs.Sheet.{k_at}
 use mathlib.Core.Path.{◌≡◌, sym, ◌∙◌}
-use borrow.Author.Tests.{not_true, not-false, leb-true}
+use borrow.Author.Tests.{not-true, not-false, leb-true}
 use Rattle.pattern_sheet.proofs.Steps.{read_low, read-high, read-empty, read-other, read_short, read-scale, read-desk, read-crew}
 use borrow.Author.Rules.{rules}
 use Rattle.pattern_sheet.proofs.read.Statement.{statement}
@@ -43,7 +43,7 @@ returns-6 c =
     let w = c.before.before.before in
     let k = w.before in
     let e = k.before.before in
-    read-scale _ _ e.before.before.if1.false e.before.if2.false e.if3.false k.if4.false w.if5.false (sym c.before.scale.ensures ∙ not_true _ c.if6.true)
+    read-scale _ _ e.before.before.if1.false e.before.if2.false e.if3.false k.if4.false w.if5.false (sym c.before.scale.ensures ∙ not-true _ c.if6.true)
 
 -- past the sixth test k is in range
 ranged : (c : tie.Else6) → leb (k_at c.before.before.before.before.before.before.before.before.before.before.args.bytes.now) top_scale ≡ true

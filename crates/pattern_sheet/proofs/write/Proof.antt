@@ -2,7 +2,7 @@ use mathlib.Core.Path.{◌≡◌, refl, sym, ◌∙◌}
 use mathlib.Core.Bool.{true}
 use lib.Dec.{leb}
 use borrow.Author.Rules.{rules}
-use borrow.Author.Tests.{not_true, not-false}
+use borrow.Author.Tests.{not-true, not-false}
 use Rattle.record_ranges.specs.Ranges.{top_scale}
 use Rattle.entry_equation.specs.Equation.{completes}
 use Rattle.pattern_sheet.proofs.Writings.{write_scale, write_equation, write_full, write_done}
@@ -18,7 +18,7 @@ completes-requires c κs = search rules
 returns : tie.Need-returns
 returns c =
     let s = c.before.before.before.before in
-    write_scale s.args.sheet s.args.out.now (sym c.before.before.scale.ensures ∙ not_true _ c.if1.true)
+    write_scale s.args.sheet s.args.out.now (sym c.before.before.scale.ensures ∙ not-true _ c.if1.true)
 
 -- past the first test k is in range, and the second tells of the equation
 module _ (c : tie.Else1) where
@@ -31,7 +31,7 @@ module _ (c : tie.Else1) where
 returns-2 : tie.Need-returns-2
 returns-2 c =
     let s = c.before.before.before.before.before in
-    write_equation s.args.sheet s.args.out.now (good c.before) (sym (solved c.before) ∙ not_true _ c.if2.true)
+    write_equation s.args.sheet s.args.out.now (good c.before) (sym (solved c.before) ∙ not-true _ c.if2.true)
 
 returns-3 : tie.Need-returns-3
 returns-3 c =

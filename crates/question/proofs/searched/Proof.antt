@@ -1,6 +1,6 @@
 use mathlib.Core.Path.{sym, ◌∙◌}
 use borrow.Author.Rules.{rules}
-use borrow.Author.Tests.{not_true, not-false}
+use borrow.Author.Tests.{not-true, not-false}
 use Rattle.question.specs.Search.{refused_none}
 use Rattle.question.specs.lemmas.Void.{void_first, void_second}
 use Rattle.question.proofs.searched.Statement.{statement}
@@ -10,7 +10,7 @@ is-accepted-requires : tie.Need-is-accepted-requires
 is-accepted-requires c κs = search rules
 
 returns : tie.Need-returns
-returns c = refused_none c.before.before.args.job (sym c.before.is-accepted.ensures ∙ not_true _ c.if1.true)
+returns c = refused_none c.before.before.args.job (sym c.before.is-accepted.ensures ∙ not-true _ c.if1.true)
 
 is-void-requires : tie.Need-is-void-requires
 is-void-requires c κs = search rules

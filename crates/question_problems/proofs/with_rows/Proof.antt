@@ -5,7 +5,7 @@ use mir.Syntax.{w64}
 use mir.Val.{to_z, of_z}
 use mir.Facts.{to_z-of_z}
 use borrow.Author.Rules.{rules}
-use borrow.Author.Tests.{not_true}
+use borrow.Author.Tests.{not-true}
 use Rattle.integers.specs.lemmas.Size.{size→fits}
 use Rattle.line_rows.specs.declared.Band.{Band}
 use Rattle.line_rows.specs.Row.{Small, First}
@@ -24,7 +24,7 @@ returns : tie.Need-returns
 returns c =
     let p = c.before.before in
     let s = p.before.before.before in
-    subst (LineWith s.args.s s.args.back) (sym c.without-rows.ensures) (line-empty s.args.s s.args.back s.requires.0 s.requires.1 s.requires.2 (inl (sym p.is-proper.ensures ∙ not_true _ c.before.if1.true)))
+    subst (LineWith s.args.s s.args.back) (sym c.without-rows.ensures) (line-empty s.args.s s.args.back s.requires.0 s.requires.1 s.requires.2 (inl (sym p.is-proper.ensures ∙ not-true _ c.before.if1.true)))
 
 is-proper-requires-2 : tie.Need-is-proper-requires-2
 is-proper-requires-2 c κs = c.before.before.before.before.requires.1
@@ -36,7 +36,7 @@ returns-2 : tie.Need-returns-2
 returns-2 c =
     let p = c.before.before in
     let s = p.before.before.before.before.before in
-    subst (LineWith s.args.s s.args.back) (sym c.without-rows2.ensures) (line-empty s.args.s s.args.back s.requires.0 s.requires.1 s.requires.2 (inr (sym p.is-proper2.ensures ∙ not_true _ c.before.if2.true)))
+    subst (LineWith s.args.s s.args.back) (sym c.without-rows2.ensures) (line-empty s.args.s s.args.back s.requires.0 s.requires.1 s.requires.2 (inr (sym p.is-proper2.ensures ∙ not-true _ c.before.if2.true)))
 
 joined-requires : tie.Need-joined-requires
 joined-requires c κs = let p = c.before.before.before.before.before.before.requires in (p.0, p.1)

@@ -9,7 +9,7 @@ use lib.ListN.{length, get_or, take, drop, length-drop}
 use mir.Syntax.{w64}
 use mir.Val.{SFits}
 use mir.Facts.{to_z-of_z}
-use borrow.Author.Tests.{not_true, not-false}
+use borrow.Author.Tests.{not-true, not-false}
 use borrow.Author.Rules.{rules}
 use Rattle.record_forms.specs.declared.Field.{Field}
 use Rattle.record_forms.specs.Forms.{fields_of, takes, takes_all}
@@ -101,7 +101,7 @@ module _ (c : tie.After-takes invariant-loop decreases-loop) where
 returns-2 : tie.Need-returns-2 invariant-loop decreases-loop
 returns-2 c =
     let k = c.before in
-    all-by k false (not_true _ c.if2.true) ∙ ap (λ (l : List Field). takes_all l (numbers k)) (is (formed (turn k)))
+    all-by k false (not-true _ c.if2.true) ∙ ap (λ (l : List Field). takes_all l (numbers k)) (is (formed (turn k)))
 
 add-i : tie.Need-overflow-add-i invariant-loop decreases-loop
 add-i c = omega arith

@@ -1,6 +1,6 @@
 use mathlib.Core.Bool.{Bool, true, false, not}
 use mathlib.Core.Path.{◌≡◌, refl}
-use borrow.Author.Tests.{not_true, not-false}
+use borrow.Author.Tests.{not-true, not-false}
 use Rattle.record_kinds.specs.declared.Refusal.TheVariants.{UnknownKind, OutOfTurn, Short}
 use Rattle.record_kinds.specs.declared.Admission.TheVariants as A
 use Rattle.record_kinds.specs.Kinds.{admission_of}
@@ -11,11 +11,11 @@ use Rattle.record_kinds.proofs.admit.Tie as tie
 module _ (known fits short : Bool) where
   unknown : not known ≡ true → A.Refused UnknownKind ≡ admission_of known fits short
   unfolding admission_of
-  unknown k = rw (not_true known k) refl
+  unknown k = rw (not-true known k) refl
 
   out-of-turn : not known ≡ false → not fits ≡ true → A.Refused OutOfTurn ≡ admission_of known fits short
   unfolding admission_of
-  out-of-turn k f = rw (not-false known k, not_true fits f) refl
+  out-of-turn k f = rw (not-false known k, not-true fits f) refl
 
   too_short : not known ≡ false → not fits ≡ false → short ≡ true → A.Refused Short ≡ admission_of known fits short
   unfolding admission_of

@@ -5,7 +5,7 @@ use mathlib.Core.List.{List}
 use Prim.Native.Nat.{ℕ, ◌+◌, ◌-◌, ◌≤◌}
 use lib.ListN.{length, take, drop, length-drop}
 use lib.Seq.{take_all}
-use borrow.Author.Tests.{not_true, not-false}
+use borrow.Author.Tests.{not-true, not-false}
 use borrow.Author.Rules.{rules}
 use Rattle.record_kinds.specs.Kinds.{body_length}
 use Rattle.record_forms.specs.Forms.{fields_of, numbers_at}
@@ -54,7 +54,7 @@ returns : tie.Need-returns invariant-loop decreases-loop
 returns c =
     let l = c.before.before.before.before.before.loop in
     let bytes = c.before.before.before.before.before.before.before.before.args.bytes.now in
-    let w = sym c.before.is_whole.ensures ∙ not_true _ c.if1.true in
+    let w = sym c.before.is_whole.ensures ∙ not-true _ c.if1.true in
     record {
       is = sym (texts_none (l.out, l.end) _ (records-stop bytes l.at c.before.before.before.before.loop-test.true c.before.before.kind-of.result c.before.before.kind-of.ensures l.invariant.0 w)) ∙ l.invariant.2;
       size = shown-size bytes (λ j. omega (arith, c.before.before.before.before.before.before.shared-slice-known.given j));

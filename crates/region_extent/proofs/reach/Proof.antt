@@ -4,7 +4,7 @@ use lib.IntN.{ℤ, pos}
 use mir.Syntax.{w64}
 use mir.Facts.{to_z-of_z}
 use borrow.Author.Rules.{rules}
-use borrow.Author.Tests.{not_true, not-false}
+use borrow.Author.Tests.{not-true, not-false}
 use Rattle.integers.specs.lemmas.Size.{back}
 use Rattle.region.specs.declared.Region.{Region}
 use Rattle.region.specs.declared.Region.TheVariants as R
@@ -24,7 +24,7 @@ refused (R.Ellipse e) u v h = rw (h, reach_of) refl
 refused (R.Slice s) u v h = rw (h, reach_of) refl
 
 returns : tie.Need-returns
-returns c = let s = c.before.before.args in sym (refused s.region s.u s.v (sym c.before.is-accepted.ensures ∙ not_true _ c.if1.true))
+returns c = let s = c.before.before.args in sym (refused s.region s.u s.v (sym c.before.is-accepted.ensures ∙ not-true _ c.if1.true))
 
 taken : (c : tie.Else1) → accepted c.before.before.args.region ≡ true
 taken c = sym c.before.is-accepted.ensures ∙ not-false _ c.if1.false

@@ -5,7 +5,7 @@ use mathlib.Core.List.{List}
 use mathlib.Core.Logic.{⊎_elim}
 use native.Mathlib.Omega.{arith}
 use borrow.Author.Rules.{rules}
-use borrow.Author.Tests.{not_true, not-false}
+use borrow.Author.Tests.{not-true, not-false}
 use lib.ListN.{length}
 use Rattle.session_tally.specs.lemmas.Places.{plus_at}
 use Rattle.session_tally.specs.lemmas.Read.{first_spread, count_none, count_most, full-most, count-full, count-over, odd-next, even-next, past_next}
@@ -36,7 +36,7 @@ is-odd-requires : tie.Need-is-odd-requires invariant-loop decreases-loop
 is-odd-requires c κs = search rules
 
 exponent-requires : tie.Need-exponent-requires invariant-loop decreases-loop
-exponent-requires c κs = sym c.before.is_odd.ensures ∙ not_true _ c.if1.true
+exponent-requires c κs = sym c.before.is_odd.ensures ∙ not-true _ c.if1.true
 
 cast-e : tie.Need-overflow-cast-e invariant-loop decreases-loop
 cast-e c = search rules

@@ -1,7 +1,7 @@
 -- `unhex` meets its contract. Assumes nothing.
 use mathlib.Core.Path.{◌≡◌, sym, ◌∙◌}
 use mathlib.Core.Bool.{true}
-use borrow.Author.Tests.{not_true, not-false}
+use borrow.Author.Tests.{not-true, not-false}
 use Rattle.text_hex.specs.Hex.{is_hex}
 use Rattle.text_hex.proofs.Hexadecimal.{unhex_bad, unhex_full, unhex_good}
 use borrow.Author.Rules.{rules}
@@ -14,7 +14,7 @@ is-hex-requires c κs = search rules
 returns : tie.Need-returns
 returns c =
     let s = c.before.before.before.before in
-    unhex_bad s.args.word.now s.args.out.now (sym c.before.is-hex.ensures ∙ not_true _ c.if1.true)
+    unhex_bad s.args.word.now s.args.out.now (sym c.before.is-hex.ensures ∙ not-true _ c.if1.true)
 
 -- past the first test the word is one
 good : (c : tie.Else1) → is_hex c.before.before.before.before.args.word.now ≡ true

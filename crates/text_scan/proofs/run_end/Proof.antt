@@ -3,7 +3,7 @@ use Prim.Native.Nat.{ℕ, ◌-◌}
 use mathlib.Core.Bool.{Bool, true, false, cond, not, beq}
 use mathlib.Core.Path.{◌≡◌, refl, ◌∙◌}
 use native.Mathlib.Omega.{arith}
-use borrow.Author.Tests.{not_true, not-false}
+use borrow.Author.Tests.{not-true, not-false}
 use lib.Dec.{eqb}
 use lib.ListN.{length, get_or}
 use Rattle.text_scan.specs.Run.{end_of_run, is_byte}
@@ -42,7 +42,7 @@ returns c =
     let t = c.before.before.before in
     let p = test t in
     let s = t.before.args.s.now in
-    run_end-here p s t.loop.i (run_none p s t.loop.i (omega arith) (isByte-beq t.before.args.b t.before.args.same (get_or s t.loop.i 0) ∙ not_true _ c.if1.true))
+    run_end-here p s t.loop.i (run_none p s t.loop.i (omega arith) (isByte-beq t.before.args.b t.before.args.same (get_or s t.loop.i 0) ∙ not-true _ c.if1.true))
     ∙ t.loop.invariant
 
 add-i : tie.Need-overflow-add-i invariant-loop decreases-loop

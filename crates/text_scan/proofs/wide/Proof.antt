@@ -7,7 +7,7 @@ use mir.Syntax.{w64}
 use mir.Val.{Fits}
 use native.Mathlib.Omega.{arith}
 use borrow.Author.Rules.{rules}
-use borrow.Author.Tests.{le-ltb, not_true, not-false}
+use borrow.Author.Tests.{le-ltb, not-true, not-false}
 use Rattle.integers_wide.specs.declared.Size.{Size}
 use Rattle.integers_wide.specs.Meaning.{size_of, meaning, word}
 use Rattle.integers_wide.specs.lemmas.Laws.{upper-less}
@@ -54,7 +54,7 @@ returns-2 : tie.Need-returns-2
 unfolding fits fitted
 returns-2 c =
     let s = c.before.before.before in
-    let m : s.args.minus ≡ false = not_true _ c.if2.true in
+    let m : s.args.minus ≡ false = not-true _ c.if2.true in
     rw (m, le-ltb _ _ (at_least s.args.n c.before.if1.false)) refl
 
 returns-3 : tie.Need-returns-3

@@ -5,7 +5,7 @@ use native.Mathlib.Omega.{arith}
 use lib.IntN.{nat_abs}
 use lib.Signed.{non_neg}
 use mir.Facts.{to_z-of_z}
-use borrow.Author.Tests.{not_true, not-false}
+use borrow.Author.Tests.{not-true, not-false}
 use Rattle.text_words.specs.declared.Slice.TheVariants.{Length}
 use Rattle.text_words.specs.Numbers.{length-negative, length-within, length-long}
 use borrow.Author.Rules.{rules}
@@ -22,7 +22,7 @@ is-nonneg-requires : tie.Need-is-nonneg-requires
 is-nonneg-requires c κs = search rules
 
 returns : tie.Need-returns
-returns c = sym (length-negative _ _ (sym (rw (to_z-of_z c.before.before.ranges.n) at c.before.is-nonneg.ensures) ∙ not_true _ c.if1.true))
+returns c = sym (length-negative _ _ (sym (rw (to_z-of_z c.before.before.ranges.n) at c.before.is-nonneg.ensures) ∙ not-true _ c.if1.true))
 
 abs-requires : tie.Need-abs-requires
 abs-requires c κs = search rules

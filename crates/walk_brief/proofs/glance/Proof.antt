@@ -1,6 +1,6 @@
 use mathlib.Core.Path.{◌≡◌, sym, ◌∙◌}
 use mathlib.Core.Bool.{true}
-use borrow.Author.Tests.{not_true, not-false}
+use borrow.Author.Tests.{not-true, not-false}
 use Rattle.region.specs.Region.{accepted_job}
 use Rattle.region.specs.Decide.{not_accepted}
 use Rattle.region.specs.Selection.{unsolved}
@@ -17,7 +17,7 @@ is-accepted-requires c κs = search rules
 returns : tie.Need-returns
 returns c =
     let j = c.before.before.args.job in
-    let n = sym c.before.is-accepted.ensures ∙ not_true _ c.if1.true in
+    let n = sym c.before.is-accepted.ensures ∙ not-true _ c.if1.true in
     has_none _ _ _ ((full-empty j).1 (λ v. unsolved j v (sym (not_accepted j v n))))
 
 accepted : (c : tie.Else1) → accepted_job c.before.before.args.job ≡ true

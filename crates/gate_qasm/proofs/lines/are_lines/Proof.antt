@@ -5,7 +5,7 @@ use mathlib.Core.List.{List}
 use native.Mathlib.Nat.{le_of_eq}
 use native.Mathlib.Omega.{arith}
 use borrow.Author.Rules.{rules}
-use borrow.Author.Tests.{not_true, not-false}
+use borrow.Author.Tests.{not-true, not-false}
 use lib.ListN.{length, take, drop}
 use Rattle.gate_qasm.proofs.Reading.{lines_none, lines_not, lines_less}
 use Rattle.gate_qasm.proofs.lines.are_lines.Statement.{statement}
@@ -58,7 +58,7 @@ is-line-requires c κs = search rules
 returns : tie.Need-returns invariant-loop decreases-loop
 returns c =
     let k = c.before in
-    sym (lines_not (text k) (i k) (omega arith) (sym (told k) ∙ not_true _ c.if1.true)) ∙ (here k).loop.invariant.1
+    sym (lines_not (text k) (i k) (omega arith) (sym (told k) ∙ not-true _ c.if1.true)) ∙ (here k).loop.invariant.1
 
 loop-less : tie.Need-loop-smaller invariant-loop decreases-loop
 loop-less c = search rules

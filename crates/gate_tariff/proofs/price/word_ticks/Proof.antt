@@ -2,7 +2,7 @@ use Rattle.gate_tariff.specs.declared.price.Ticks.TheVariants.{Sum}
 use Rattle.gate_tariff.specs.Tariff.{rounded}
 use Prim.Native.Nat.{◌≤◌}
 use mathlib.Core.Path.{◌≡◌, sym, ap, ◌∙◌}
-use borrow.Author.Tests.{not_true, not-false, leb-true}
+use borrow.Author.Tests.{not-true, not-false, leb-true}
 use native.Mathlib.Omega.{arith}
 use Rattle.gate_tariff.specs.lemmas.Laws.{letters-small}
 use Rattle.gate_tariff.proofs.Prices.{ticks_long, ticks_letter, ticks_sum}
@@ -14,10 +14,10 @@ are-letters-requires : tie.Need-are-letters-requires
 are-letters-requires c κs = search rules
 
 returns : tie.Need-returns
-returns c = ticks_long _ _ c.before.before.before.requires (not_true _ c.if1.true)
+returns c = ticks_long _ _ c.before.before.before.requires (not-true _ c.if1.true)
 
 returns-2 : tie.Need-returns-2
-returns-2 c = ticks_letter _ _ c.before.before.before.before.requires (not-false _ c.before.if1.false) (sym c.before.before.are-letters.ensures ∙ not_true _ c.if2.true)
+returns-2 c = ticks_letter _ _ c.before.before.before.before.requires (not-false _ c.before.if1.false) (sym c.before.before.are-letters.ensures ∙ not-true _ c.if2.true)
 
 sum-requires : tie.Need-sum-requires
 sum-requires c κs = (c.before.before.before.before.requires, leb-true _ _ (not-false _ c.before.if1.false))

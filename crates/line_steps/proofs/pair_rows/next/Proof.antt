@@ -1,5 +1,5 @@
 use mathlib.Core.Path.{◌∙◌}
-use borrow.Author.Tests.{not_true}
+use borrow.Author.Tests.{not-true}
 use Rattle.line_steps.specs.Walk.{found_plain}
 use Rattle.line_steps.proofs.pair_rows.next.Statement.{statement}
 use Rattle.line_steps.proofs.pair_rows.next.Tie as tie
@@ -12,7 +12,7 @@ returns c =
     let p = c.before in
     let i = p.before in
     let s = i.before.before.before in
-    found_plain s.args.c s.requires.0 s.args.p (not_true _ i.if1.true) (p.is-pair.ensures c.if2.true)
+    found_plain s.args.c s.requires.0 s.args.p (not-true _ i.if1.true) (p.is-pair.ensures c.if2.true)
 
 onward-requires : tie.Need-onward-requires
 onward-requires c κs = c.before.before.before.requires

@@ -2,7 +2,7 @@ use mathlib.Core.Path.{◌≡◌, sym, subst}
 use Prim.Native.Nat.{◌*◌}
 use native.Mathlib.Omega.{arith}
 use borrow.Author.Rules.{rules}
-use borrow.Author.Tests.{not_true, not-false}
+use borrow.Author.Tests.{not-true, not-false}
 use Rattle.line_rows.specs.Row.{Small, First}
 use Rattle.line_steps.specs.Walk.{begun-plain, begun-row, rows_small}
 use Rattle.line_steps.proofs.pair_rows.start.Statement.{statement}
@@ -18,7 +18,7 @@ returns : tie.Need-returns
 returns c =
     let i = c.before.before in
     let s = i.before.before in
-    let t = not_true _ i.if1.true in
+    let t = not-true _ i.if1.true in
     let e = (s.requires.0.plain t).0 in
     let a = s.requires.1.a_in in
     let b = s.requires.1.b-in in

@@ -3,7 +3,7 @@ use mathlib.Core.Bool.{true}
 use Prim.Native.Nat.{◌+◌, ◌*◌, ◌-◌, ◌^◌, ◌≤◌}
 use native.Mathlib.Omega.{arith}
 use borrow.Author.Rules.{rules}
-use borrow.Author.Tests.{not_true}
+use borrow.Author.Tests.{not-true}
 use lib.IntN.{pos}
 use mir.Syntax.{w64}
 use mir.Val.{SFits}
@@ -128,7 +128,7 @@ returns-2 : tie.Need-returns-2 invariant-loop decreases-loop
 returns-2 c =
     let b = c.before in
     let s = start (here b) in
-    ended-rows s.args.c s.pre.0 s.args.p ((here b).loop.x + 1) 0 (later b) (sym (tested b) ∙ not_true _ c.if3.true)
+    ended-rows s.args.c s.pre.0 s.args.p ((here b).loop.x + 1) 0 (later b) (sym (tested b) ∙ not-true _ c.if3.true)
 
 loop-less-2 : tie.Need-loop-smaller-2 invariant-loop decreases-loop
 loop-less-2 c = let h = (start (here c.before)).pre.0.half in omega arith

@@ -1,7 +1,7 @@
 use native.Mathlib.Omega.{arith}
 use lib.Dec.{lit≤}
 use mathlib.Core.Path.{sym, ◌∙◌}
-use borrow.Author.Tests.{lt-ltb, le-ltb, not_true, not-false}
+use borrow.Author.Tests.{lt-ltb, le-ltb, not-true, not-false}
 use lib.ListN.{length}
 use Rattle.list_lines.specs.Lines.{too_long_line}
 use Rattle.text_puts.specs.Puts.{one, weaken}
@@ -35,7 +35,7 @@ returns-2 : tie.Need-returns-2
 returns-2 c =
     let s = c.before.before.before.before.before.before.before.before.before in
     let b = c.before.before.before.before.before in
-    rw (le-ltb 524335 (length s.args.bytes.now) (omega arith), sym b.begins.ensures.0 ∙ not_true _ c.before.before.before.before.if2.true) (weaken 65537 (omega arith) c.before.before.put-refusal.ensures)
+    rw (le-ltb 524335 (length s.args.bytes.now) (omega arith), sym b.begins.ensures.0 ∙ not-true _ c.before.before.before.before.if2.true) (weaken 65537 (omega arith) c.before.before.put-refusal.ensures)
 
 sub-put-lines-word : tie.Need-overflow-sub-put-lines-word
 sub-put-lines-word c = let h = c.before.before.begins.ensures.1 (not-false _ c.before.if2.false) in omega arith

@@ -4,7 +4,7 @@ use mir.Syntax.{w16, w32}
 use mir.Val.{SFits}
 use mir.Facts.{to_z-of_z}
 use borrow.Author.Rules.{rules}
-use borrow.Author.Tests.{not_true, not-false}
+use borrow.Author.Tests.{not-true, not-false}
 use Rattle.record_ranges.specs.Ranges.{directed}
 use Rattle.region.specs.Region.{in_range_s, check_of}
 use Rattle.region.proofs.Slice.check.Statement.{statement}
@@ -30,7 +30,7 @@ towards c = let h = fits c.before.before.before.before.before.before.before in r
 
 returns : tie.Need-returns
 unfolding check_of
-returns c = rw (sym (tested c.before.before.before.before) ∙ not_true _ c.if1.true) refl
+returns c = rw (sym (tested c.before.before.before.before) ∙ not-true _ c.if1.true) refl
 
 -- what the first test says where the second is reached
 in-range : (c : tie.Else1) → in_range_s c.before.before.before.before.before.before.before.before.args.self ≡ true

@@ -4,7 +4,7 @@ use Prim.Native.Nat.{ℕ, ◌+◌, ◌≤◌, ◌<◌}
 use native.Mathlib.Nat.{add-zero}
 use native.Mathlib.Decide.{dec_lt}
 use native.Mathlib.Omega.{arith}
-use borrow.Author.Tests.{not_true, not-false}
+use borrow.Author.Tests.{not-true, not-false}
 use borrow.Author.Rules.{rules}
 use lib.IntN.{ℤ}
 use mathlib.Core.List.{List}
@@ -37,7 +37,7 @@ returns : tie.Need-returns
 returns c =
     let a = c.before in
     let s = a.before.before in
-    let e = sym (tested a) ∙ not_true _ c.if1.true in
+    let e = sym (tested a) ∙ not-true _ c.if1.true in
     (sym (ap (λ (b : Bool). cond b 1 0) e), sym (add-zero s.args.i), s.requires.1, a.before.front.ensures)
 
 add-n : tie.Need-overflow-add-n
