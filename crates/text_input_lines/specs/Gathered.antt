@@ -49,7 +49,7 @@ pub data Run (g₀ : Gathered) (buf₀ : List ℕ) : List ℕ → List Event →
       → Run g₀ buf₀ (text ++ b ∷ []) (said ++ event_of r.said new) r.next new
 
 -- the same machine goes on with what comes next: it is all one how the input comes cut
-pub run_on : {g₀ g r : Gathered} {buf₀ old new first rest : List ℕ} {before after : List Event} → Run g₀ buf₀ first before g old → Run g old rest after r new → Run g₀ buf₀ (first ++ rest) (before ++ after) r new
+pub run_on : {g₀ g : Gathered} {buf₀ old first : List ℕ} {before : List Event} {r : Gathered} {new rest : List ℕ} {after : List Event} → Run g₀ buf₀ first before g old → Run g old rest after r new → Run g₀ buf₀ (first ++ rest) (before ++ after) r new
 run_on {first} {before} k begun = rw (append-nil first, append-nil before) k
 run_on {first} {before} k (turned {text} {said} {g} {b} {r} {old} {new} l s) =
     rw (← append_assoc first text (b ∷ []), ← append_assoc before said (event_of r.said new)) (turned (run_on k l) s)
