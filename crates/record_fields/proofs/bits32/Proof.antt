@@ -20,33 +20,33 @@ module _ (c : tie.Start) where
   narrow = to_z-of_z c.ranges.x
 
   wide : to_z w64 (of_z w64 (to_z w32 (of_z w32 z))) ≡ z
-  wide = rw narrow (to_z-of_z (sfits_widen tt c.ranges.x))
+  wide = rw narrow (to_z-of_z {w = w64} (sfits_widen tt c.ranges.x))
 
-cast-abs : tie.Need-overflow-cast-abs
+cast-abs : tie.Need-overflow_cast-x
 cast-abs c = rw (narrow c) (sfits_widen tt c.ranges.x)
 
-abs-requires : tie.Need-abs-requires
+abs-requires : tie.Need-abs-n-requires
 abs-requires c κs = search rules
 
-size : (c : tie.After-abs) → c.abs.result ≡ nat_abs (z c.before)
-size c = c.abs.ensures ∙ ap nat_abs (wide c.before)
+size : (c : tie.After-abs-n) → c.abs-n.result ≡ nat_abs (z c.before)
+size c = c.abs-n.ensures ∙ ap nat_abs (wide c.before)
 
-sub-result : tie.Need-overflow-sub-result
-sub-result c = omega (arith, size c.before, fits→size c.before.before.ranges.x)
+sub-result : tie.Need-overflow_sub-result
+sub-result c = omega (arith, size c.before, fits→size c.ranges.x)
 
-cast-result : tie.Need-overflow-cast-result
-cast-result c = omega (arith, size c.before, size_below (z c.before.before) (rw (narrow c.before.before) at c.if1.true))
+cast-result : tie.Need-overflow_cast-result
+cast-result c = omega (arith, size c.before, size_below (z c.before.before) (rw (narrow c.before.before) at c.if-x-lt0.true))
 
-cast-result-2 : tie.Need-overflow-cast-result-2
-cast-result-2 c = omega (arith, size c.before, fits→size c.before.before.ranges.x)
+cast-result-2 : tie.Need-overflow_cast-result-else-x-lt0
+cast-result-2 c = omega (arith, size c.before, fits→size c.ranges.x)
 
-returns : tie.Need-returns
-returns c = ap (λ (n : ℕ). 4294967296 - n) (size c.before) ∙ sym (bits_below 32 (z c.before.before) (rw (narrow c.before.before) at c.if1.true))
+returns : tie.Need-returns-then-x-lt0
+returns c = ap (λ (n : ℕ). 4294967296 - n) (size c.before) ∙ sym (bits_below 32 (z c.before.before) (rw (narrow c.before.before) at c.if-x-lt0.true))
 
-returns-2 : tie.Need-returns-2
-returns-2 c = size c.before ∙ sym (bits-not_below 32 (z c.before.before) (rw (narrow c.before.before) at c.if1.false))
+returns-2 : tie.Need-returns-else-x-lt0
+returns-2 c = size c.before ∙ sym (bits-not_below 32 (z c.before.before) (rw (narrow c.before.before) at c.if-x-lt0.false))
 
-pub bits32-spec : {M : Type 1} → statement M
-bits32-spec =
+pub bits32_spec : {M : Type 1} → statement M
+bits32_spec =
     tie.close
     (tie.spec cast-abs abs-requires sub-result cast-result cast-result-2 returns returns-2)

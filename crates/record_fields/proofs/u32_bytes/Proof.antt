@@ -19,6 +19,6 @@ returns : tie.Need-returns
 unfolding little_endian
 returns c = search rules
 
-pub u32-bytes-spec : {M : Type 1} → statement M
-u32-bytes-spec =
+pub u32_bytes_spec : {M : Type 1} → statement M
+u32_bytes_spec =
     tie.close (tie.spec low-requires low-requires-2 low-requires-3 low-requires-4 returns)

@@ -1,5 +1,5 @@
 use mathlib.Core.Bool.{Bool, true, false, not}
-use mathlib.Core.Path.{◌≡◌, refl}
+use mathlib.Core.Path.{◌≡◌, refl, ap}
 use borrow.Author.Tests.{not-true, not-false}
 use Rattle.record_kinds.specs.declared.Refusal.TheVariants.{UnknownKind, OutOfTurn, Short}
 use Rattle.record_kinds.specs.declared.Admission.TheVariants as A
@@ -25,17 +25,17 @@ module _ (known fits short : Bool) where
   unfolding admission_of
   whole k f s = rw (not-false known k, not-false fits f, s) refl
 
-returns : tie.Need-returns
-returns c = unknown _ _ _ c.if1.true
+returns : tie.Need-returns-then-not-known
+returns c = unknown _ _ _ (ap not c.if-not-known.true)
 
-returns-2 : tie.Need-returns-2
-returns-2 c = out-of-turn _ _ _ c.before.if1.false c.if2.true
+returns-2 : tie.Need-returns-then-not-fits
+returns-2 c = out-of-turn _ _ _ (ap not c.if-not-known.false) (ap not c.if-not-fits.true)
 
-returns-3 : tie.Need-returns-3
-returns-3 c = too_short _ _ _ c.before.before.if1.false c.before.if2.false c.if3.true
+returns-3 : tie.Need-returns-then-short
+returns-3 c = too_short _ _ _ (ap not c.if-not-known.false) (ap not c.if-not-fits.false) c.if-short.true
 
-returns-4 : tie.Need-returns-4
-returns-4 c = whole _ _ _ c.before.before.if1.false c.before.if2.false c.if3.false
+returns-4 : tie.Need-returns
+returns-4 c = whole _ _ _ (ap not c.if-not-known.false) (ap not c.if-not-fits.false) c.if-short.false
 
-pub admit-spec : {M : Type 1} → statement M
-admit-spec = tie.close (tie.spec returns returns-2 returns-3 returns-4)
+pub admit_spec : {M : Type 1} → statement M
+admit_spec = tie.close (tie.spec returns returns-2 returns-3 returns-4)

@@ -11,13 +11,13 @@ use Rattle.record_ranges.specs.Ranges.{discriminant}
 use Rattle.record_ranges.proofs.discriminant.Statement.{statement}
 use Rattle.record_ranges.proofs.discriminant.Tie as tie
 
-cast-p : tie.Need-overflow-cast-p
+cast-p : tie.Need-overflow_cast-p
 cast-p c = search rules
 
-cast-q : tie.Need-overflow-cast-q
+cast-q : tie.Need-overflow_cast-q
 cast-q c = let h = c.ranges.q in rw (to_z-of_z h) (sfits_widen tt h)
 
-cast-r : tie.Need-overflow-cast-r
+cast-r : tie.Need-overflow_cast-r
 cast-r c = search rules
 
 -- the numbers as 64-bit ones, and what is made of them
@@ -38,7 +38,7 @@ module _ (c : tie.Start) where
   r-is = to_z_pos w64 (omega arith)
 
   q-is : to_z w64 (of_z w64 (to_z w16 (of_z w16 q))) ≡ q
-  q-is = rw (to_z-of_z c.ranges.q) (to_z-of_z (sfits_widen tt c.ranges.q))
+  q-is = rw (to_z-of_z c.ranges.q) (to_z-of_z {w = w64} (sfits_widen tt c.ranges.q))
 
   pr-size : nat_abs (pos p *ℤ pos r) ≤ 65535 * 65535
   pr-size = size-*≤ (pos p) (pos r) 65535 65535 (omega arith) (omega arith)
@@ -55,18 +55,18 @@ module _ (c : tie.Start) where
   det : SFits w64 (discriminant p q r)
   det = size→fits (omega (arith, pr-size, qq-size, size-- (pos p *ℤ pos r) (q *ℤ q)))
 
-mul-result : tie.Need-overflow-mul-result
+mul-result : tie.Need-overflow_mul-result
 mul-result c = rw (p-is c, r-is c) (pr c)
 
-mul-result-2 : tie.Need-overflow-mul-result-2
+mul-result-2 : tie.Need-overflow_mul-result-2
 mul-result-2 c = rw (q-is c) (qq c)
 
-sub-result : tie.Need-overflow-sub-result
+sub-result : tie.Need-overflow_sub-result
 sub-result c = rw (p-is c, r-is c, q-is c, to_z-of_z (pr c), to_z-of_z (qq c)) (det c)
 
 returns : tie.Need-returns
 returns c = rw (p-is c, r-is c, q-is c, to_z-of_z (pr c), to_z-of_z (qq c), to_z-of_z (det c)) refl
 
-pub discriminant-spec : {M : Type 1} → statement M
-discriminant-spec =
+pub discriminant_spec : {M : Type 1} → statement M
+discriminant_spec =
     tie.close (tie.spec cast-p cast-q cast-r mul-result mul-result-2 sub-result returns)

@@ -18,7 +18,7 @@ within-requires-2 c κs = search rules
 between-requires-2 : tie.Need-between-requires-2
 between-requires-2 c κs = search rules
 
-within-short-requires : tie.Need-within-short-requires
+within-short-requires : tie.Need-within_short-requires
 within-short-requires c κs = search rules
 
 between-requires-3 : tie.Need-between-requires-3
@@ -26,23 +26,23 @@ between-requires-3 c κs = search rules
 
 returns : tie.Need-returns
 returns c =
-    let q = c.before in
-    let p = q.before in
-    let cy = p.before in
-    let cx = cy.before in
-    let n = cx.before in
-    let f = n.before.ranges in
-    let a = n.before.args in
+    let q = c in
+    let p = q in
+    let cy = p in
+    let cx = cy in
+    let n = cx in
+    let f = n.ranges in
+    let a = n.args in
     ellipse-is a.n a.cx a.cy a.p a.q a.r a.s n.between.ensures
     (cx.within.ensures ∙ ap (within 10000) (to_z-of_z f.cx))
-    (cy.within2.ensures ∙ ap (within 10000) (to_z-of_z f.cy))
-    p.between2.ensures
-    (q.within-short.ensures ∙ ap (within 100) (to_z-of_z f.q))
-    c.between3.ensures
+    (cy.within-2.ensures ∙ ap (within 10000) (to_z-of_z f.cy))
+    p.between-2.ensures
+    (q.within_short.ensures ∙ ap (within 100) (to_z-of_z f.q))
+    c.between-3.ensures
     refl
 
-pub ellipse-spec : {M : Type 1} → statement M
-ellipse-spec =
+pub ellipse_spec : {M : Type 1} → statement M
+ellipse_spec =
     tie.close
     (tie.spec
     between-requires

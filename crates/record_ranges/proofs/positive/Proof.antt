@@ -10,7 +10,7 @@ discriminant-requires : tie.Need-discriminant-requires
 discriminant-requires c κs = search rules
 
 returns : tie.Need-returns
-returns c = rw (back w64 c.discriminant.type-inv, c.discriminant.ensures, to_z-of_z c.before.ranges.q) refl
+returns c = rw (back w64 c.discriminant.type_inv, c.discriminant.ensures, to_z-of_z c.ranges.q) refl
 
-pub positive-spec : {M : Type 1} → statement M
-positive-spec = tie.close (tie.spec discriminant-requires returns)
+pub positive_spec : {M : Type 1} → statement M
+positive_spec = tie.close (tie.spec discriminant-requires returns)

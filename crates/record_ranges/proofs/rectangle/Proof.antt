@@ -23,20 +23,20 @@ within-requires-4 c κs = search rules
 
 returns : tie.Need-returns
 returns c =
-    let yl = c.before in
-    let xh = yl.before in
-    let xl = xh.before in
-    let n = xl.before in
-    let f = n.before.ranges in
-    let a = n.before.args in
+    let yl = c in
+    let xh = yl in
+    let xl = xh in
+    let n = xl in
+    let f = n.ranges in
+    let a = n.args in
     rectangle-is a.n a.xl a.xh a.yl a.yh n.between.ensures
     (xl.within.ensures ∙ ap (within 10000) (to_z-of_z f.xl))
-    (xh.within2.ensures ∙ ap (within 10000) (to_z-of_z f.xh))
-    (yl.within3.ensures ∙ ap (within 10000) (to_z-of_z f.yl))
-    (c.within4.ensures ∙ ap (within 10000) (to_z-of_z f.yh))
+    (xh.within-2.ensures ∙ ap (within 10000) (to_z-of_z f.xh))
+    (yl.within-3.ensures ∙ ap (within 10000) (to_z-of_z f.yl))
+    (c.within-4.ensures ∙ ap (within 10000) (to_z-of_z f.yh))
 
-pub rectangle-spec : {M : Type 1} → statement M
-rectangle-spec =
+pub rectangle_spec : {M : Type 1} → statement M
+rectangle_spec =
     tie.close
     (tie.spec
     between-requires

@@ -7,7 +7,7 @@ use Rattle.record_ranges.specs.lemmas.Forms.{within-nat_abs}
 use Rattle.record_ranges.proofs.within.Statement.{statement}
 use Rattle.record_ranges.proofs.within.Tie as tie
 
-cast-abs : tie.Need-overflow-cast-abs
+cast-abs : tie.Need-overflow_cast-z
 cast-abs c = rw (to_z-of_z c.ranges.z) (sfits_widen tt c.ranges.z)
 
 abs-requires : tie.Need-abs-requires
@@ -15,10 +15,10 @@ abs-requires c κs = search rules
 
 returns : tie.Need-returns
 returns c =
-    let a = c.before.args in
-    let fz = c.before.ranges.z in
+    let a = c.args in
+    let fz = c.ranges.z in
     let e = rw (to_z-of_z fz, to_z-of_z (sfits_widen tt fz)) at c.abs.ensures in
     rw (within-nat_abs a.m a.z) (ap (λ (n : ℕ). leb n a.m) e)
 
-pub within-spec : {M : Type 1} → statement M
-within-spec = tie.close (tie.spec cast-abs abs-requires returns)
+pub within_spec : {M : Type 1} → statement M
+within_spec = tie.close (tie.spec cast-abs abs-requires returns)

@@ -10,5 +10,5 @@ full-requires c κs = search rules
 returns : tie.Need-returns
 returns c = rw c.full.ensures refl
 
-pub begin-spec : {M : Type 1} → statement M
-begin-spec = tie.close (tie.spec full-requires returns)
+pub begin_spec : {M : Type 1} → statement M
+begin_spec = tie.close (tie.spec full-requires returns)

@@ -28,33 +28,33 @@ failed-answer : (g e : ℤ) → le_z (pos 0) g ≡ false → error_of (of_z w32 
 failed-answer (pos n) e h = absurd (let z : ◌≡◌ {A = ℕ} 0 1 = cc (leb-zero n) in omega arith)
 failed-answer (negsuc n) e h = refl
 
-cast-t4 : tie.Need-overflow-cast-t4
+cast-t4 : tie.Need-overflow_cast-result
 cast-t4 c =
-    let f = c.before.ranges.got in
-    rw (to_z-of_z f) (nonneg c.before.args.got (rw (to_z-of_z f) at c.if1.true), Fits-nat_abs tt f)
+    let f = c.ranges.got in
+    rw (to_z-of_z f) (nonneg c.args.got (rw (to_z-of_z f) at c.if-got-ge0.true), Fits-nat_abs tt f)
 
-returns : tie.Need-returns
+returns : tie.Need-returns-then-got-ge0
 returns c =
-    let f = c.before.ranges.got in
-    rw (to_z-of_z f) (moved-answer c.before.args.got c.before.args.error (rw (to_z-of_z f) at c.if1.true))
+    let f = c.ranges.got in
+    rw (to_z-of_z f) (moved-answer c.args.got c.args.error (rw (to_z-of_z f) at c.if-got-ge0.true))
 
-returns-2 : tie.Need-returns-2
+returns-2 : tie.Need-returns-then-error-eq-EAGAIN
 returns-2 c =
-    let t = c.before in
-    let f = t.before.ranges.got in
-    rw (← failed-answer t.before.args.got t.before.args.error (rw (to_z-of_z f) at t.if1.false), eq-eqb _ _ c.if2.true) refl
+    let t = c in
+    let f = t.ranges.got in
+    rw (← failed-answer t.args.got t.args.error (rw (to_z-of_z f) at t.if-got-ge0.false), eq-eqb _ _ c.if-error-eq-EAGAIN.true) refl
 
-returns-3 : tie.Need-returns-3
+returns-3 : tie.Need-returns-then-error-ne-EINTR
 returns-3 c =
-    let t = c.before.before in
-    let f = t.before.ranges.got in
-    rw (← failed-answer t.before.args.got t.before.args.error (rw (to_z-of_z f) at t.if1.false), ne_eqb _ _ c.before.if2.false, ne_eqb _ _ c.if3.true) refl
+    let t = c in
+    let f = t.ranges.got in
+    rw (← failed-answer t.args.got t.args.error (rw (to_z-of_z f) at t.if-got-ge0.false), ne_eqb _ _ c.if-error-eq-EAGAIN.false, ne_eqb _ _ c.if-error-ne-EINTR.true) refl
 
-returns-4 : tie.Need-returns-4
+returns-4 : tie.Need-returns
 returns-4 c =
-    let t = c.before.before in
-    let f = t.before.ranges.got in
-    rw (← failed-answer t.before.args.got t.before.args.error (rw (to_z-of_z f) at t.if1.false), ne_eqb _ _ c.before.if2.false, eq-eqb _ _ c.if3.false) refl
+    let t = c in
+    let f = t.ranges.got in
+    rw (← failed-answer t.args.got t.args.error (rw (to_z-of_z f) at t.if-got-ge0.false), ne_eqb _ _ c.if-error-eq-EAGAIN.false, eq-eqb _ _ c.if-error-ne-EINTR.false) refl
 
-pub judged-spec : {M : Type 1} → statement M
-judged-spec = tie.close (tie.spec cast-t4 returns returns-2 returns-3 returns-4)
+pub judged_spec : {M : Type 1} → statement M
+judged_spec = tie.close (tie.spec cast-t4 returns returns-2 returns-3 returns-4)

@@ -4,25 +4,25 @@ use borrow.Author.Rules.{rules}
 use Rattle.system_transfer.proofs.put_off.Statement.{statement}
 use Rattle.system_transfer.proofs.put_off.Tie as tie
 
-is-out-requires : tie.Need-is-out-requires
+is-out-requires : tie.Need-is_out-requires
 is-out-requires c κs = search rules
 
 closed-requires : tie.Need-closed-requires
 closed-requires c κs = search rules
 
-returns : tie.Need-returns
+returns : tie.Need-returns-then-is_out
 returns c =
-    let t = c.before in
-    rw (sym t.before.is-out.ensures ∙ t.if1.true) c.closed.ensures
+    let t = c in
+    rw (sym t.is_out.ensures ∙ t.if-is_out.true) c.closed.ensures
 
 less-requires : tie.Need-less-requires
 less-requires c κs = search rules
 
-returns-2 : tie.Need-returns-2
+returns-2 : tie.Need-returns
 returns-2 c =
-    let t = c.before in
-    rw (sym t.before.is-out.ensures ∙ t.if1.false, c.less.ensures) (rw (sym t.before.is-out.ensures ∙ t.if1.false) refl)
+    let t = c in
+    rw (sym t.is_out.ensures ∙ t.if-is_out.false, c.less.ensures) (rw (sym t.is_out.ensures ∙ t.if-is_out.false) refl)
 
-pub put-off-spec : {M : Type 1} → statement M
-put-off-spec =
+pub put_off_spec : {M : Type 1} → statement M
+put_off_spec =
     tie.close (tie.spec is-out-requires closed-requires returns less-requires returns-2)

@@ -5,41 +5,41 @@ use borrow.Author.Rules.{rules}
 use Rattle.system_transfer.proofs.step.Statement.{statement}
 use Rattle.system_transfer.proofs.step.Tie as tie
 
-enum-known-a : tie.Need-enum-known-a
+enum-known-a : tie.Need-enum_known-a
 enum-known-a c = search rules
 
 moved-requires : tie.Need-moved-requires
 moved-requires c κs = search rules
 
-enum_told : tie.Need-enum-told
+enum_told : tie.Need-enum_told-1
 enum_told c = search rules
 
-put-off-requires : tie.Need-put-off-requires
+put-off-requires : tie.Need-put_off-requires
 put-off-requires c κs = search rules
 
-enum-told-2 : tie.Need-enum-told-2
+enum-told-2 : tie.Need-enum_told-in-Interrupted
 enum-told-2 c = search rules
 
-put-off-requires-2 : tie.Need-put-off-requires-2
+put-off-requires-2 : tie.Need-put_off-requires-in-Interrupted
 put-off-requires-2 c κs = search rules
 
-enum-told-3 : tie.Need-enum-told-3
+enum-told-3 : tie.Need-enum_told-in-Failed
 enum-told-3 c = search rules
 
 closed-requires : tie.Need-closed-requires
 closed-requires c κs = search rules
 
-returns : tie.Need-returns
-returns c = c.moved.ensures ∙ sym (ap (step_of c.before.before.before.before.args.none c.before.before.before.before.args.length c.before.before.before.before.args.t) c.before.before.a.given.1)
+returns : tie.Need-returns-in-Moved
+returns c = c.moved.ensures ∙ sym (ap (step_of c.args.none c.args.length c.args.t) c.in-Moved.is)
 
-returns-2 : tie.Need-returns-2
-returns-2 c = c.put-off.ensures ∙ sym (ap (step_of c.before.before.before.args.none c.before.before.before.args.length c.before.before.before.args.t) c.before.enum_told.given.1)
+returns-2 : tie.Need-returns-in-NotNow
+returns-2 c = c.put_off.ensures ∙ sym (ap (step_of c.args.none c.args.length c.args.t) c.in-NotNow.is)
 
-returns-3 : tie.Need-returns-3
-returns-3 c = c.put-off2.ensures ∙ sym (ap (step_of c.before.before.before.args.none c.before.before.before.args.length c.before.before.before.args.t) c.before.enum-told2.given.1)
+returns-3 : tie.Need-returns-in-Interrupted
+returns-3 c = c.put_off-in-Interrupted.ensures ∙ sym (ap (step_of c.args.none c.args.length c.args.t) c.in-Interrupted.is)
 
-returns-4 : tie.Need-returns-4
-returns-4 c = c.closed.ensures ∙ sym (ap (step_of c.before.before.before.args.none c.before.before.before.args.length c.before.before.before.args.t) c.before.enum-told3.given.1)
+returns-4 : tie.Need-returns-in-Failed
+returns-4 c = c.closed.ensures ∙ sym (ap (step_of c.args.none c.args.length c.args.t) c.in-Failed.is)
 
 pub step_spec : {M : Type 1} → statement M
 step_spec =

@@ -5,17 +5,17 @@ use borrow.Author.Rules.{rules}
 use Rattle.text_input_lines.proofs.last.Statement.{statement}
 use Rattle.text_input_lines.proofs.last.Tie as tie
 
-returns : tie.Need-returns
+returns : tie.Need-returns-then-g
 returns c = search rules
 
-returns-2 : tie.Need-returns-2
-returns-2 c = rw (c.before.before.if1.false, eq-eqb _ _ c.if2.true) refl
+returns-2 : tie.Need-returns-then-g-eq0
+returns-2 c = rw (c.if-g.false, eq-eqb _ _ c.if-g-eq0.true) refl
 
 whole-requires : tie.Need-whole-requires
 whole-requires c κs = search rules
 
-returns-3 : tie.Need-returns-3
-returns-3 c = rw (c.before.before.before.if1.false, ne_eqb _ _ c.before.if2.false) (rw c.before.before.before.if1.false at c.whole.ensures)
+returns-3 : tie.Need-returns
+returns-3 c = rw (c.if-g.false, ne_eqb _ _ c.if-g-eq0.false) (rw c.if-g.false at c.whole.ensures)
 
-pub last-spec : {M : Type 1} → statement M
-last-spec = tie.close (tie.spec returns returns-2 whole-requires returns-3)
+pub last_spec : {M : Type 1} → statement M
+last_spec = tie.close (tie.spec returns returns-2 whole-requires returns-3)

@@ -11,17 +11,17 @@ empty-requires c κs = search rules
 whole-requires : tie.Need-whole-requires
 whole-requires c κs = search rules
 
-returns : tie.Need-returns
-returns c = ended c.before.before.if1.true refl (rw (c.before.empty.ensures, c.whole.ensures) refl)
+returns : tie.Need-returns-then-b-eq10
+returns c = ended c.if-b-eq10.true refl (rw (c.empty.ensures, c.whole.ensures) refl)
 
 grown-requires : tie.Need-grown-requires
 grown-requires c κs = search rules
 
-same_length : tie.Need-same-length
+same_length : tie.Need-shape_of-line
 same_length c = search rules
 
-returns-2 : tie.Need-returns-2
-returns-2 c = grew c.before.before.before.before.if1.false c.before.before.grown.ensures refl
+returns-2 : tie.Need-returns
+returns-2 c = grew c.if-b-eq10.false c.grown.ensures refl
 
 pub take_spec : {M : Type 1} → statement M
 take_spec =

@@ -22,33 +22,33 @@ fits z e f = record { sfits = go z (≤→ℕ _ z (lt_z_false z (neg_ℤ (pos (2
     go (negsuc n) h k = omega arith
 
 -- past the first test, and past both
-module _ (c : tie.Else1) where
+module _ (c : tie.Else-z-ltminus2147483648) where
   abbrev z : ℤ
-  z = c.before.args.z
+  z = c.args.z
 
   low : lt_z z (neg_ℤ (pos (2 ^ 31))) ≡ false
-  low = rw (to_z-of_z c.before.ranges.z) at c.if1.false
+  low = rw (to_z-of_z c.ranges.z) at c.if-z-ltminus2147483648.false
 
-module _ (c : tie.Else2) where
+module _ (c : tie.Else-z-gt2147483647) where
   high : lt_z (pos 2147483647) (z c.before) ≡ false
-  high = rw (to_z-of_z c.before.before.ranges.z) at c.if2.false
+  high = rw (to_z-of_z c.ranges.z) at c.if-z-gt2147483647.false
 
   small : SFits w32 (z c.before)
   small = fits (z c.before) (low c.before) high
 
-returns : tie.Need-returns
-returns c = let e : lt_z c.before.args.z (neg_ℤ (pos (2 ^ 31))) ≡ true = rw (to_z-of_z c.before.ranges.z) at c.if1.true in rw e refl
+returns : tie.Need-returns-then-z-ltminus2147483648
+returns c = let e : lt_z c.args.z (neg_ℤ (pos (2 ^ 31))) ≡ true = rw (to_z-of_z c.ranges.z) at c.if-z-ltminus2147483648.true in rw e refl
 
-returns-2 : tie.Need-returns-2
+returns-2 : tie.Need-returns-then-z-gt2147483647
 returns-2 c =
-    let e : lt_z (pos 2147483647) (z c.before) ≡ true = rw (to_z-of_z c.before.before.ranges.z) at c.if2.true in
+    let e : lt_z (pos 2147483647) (z c.before) ≡ true = rw (to_z-of_z c.ranges.z) at c.if-z-gt2147483647.true in
     rw (low c.before, e) refl
 
-cast-t3 : tie.Need-overflow-cast-t3
-cast-t3 c = rw (to_z-of_z c.before.before.ranges.z) (small c)
+cast-t3 : tie.Need-overflow_cast-result
+cast-t3 c = rw (to_z-of_z c.ranges.z) (small c)
 
-returns-3 : tie.Need-returns-3
-returns-3 c = rw (to_z-of_z c.before.before.ranges.z, to_z-of_z (small c), low c.before, high c) refl
+returns-3 : tie.Need-returns
+returns-3 c = rw (to_z-of_z c.ranges.z, to_z-of_z (small c), low c.before, high c) refl
 
-pub narrow-spec : {M : Type 1} → statement M
-narrow-spec = tie.close (tie.spec returns returns-2 cast-t3 returns-3)
+pub narrow_spec : {M : Type 1} → statement M
+narrow_spec = tie.close (tie.spec returns returns-2 cast-t3 returns-3)

@@ -11,26 +11,26 @@ use Rattle.text_scan.proofs.Signs.{turn-pos, negℤ_pos}
 use Rattle.text_scan.proofs.negative.Statement.{statement}
 use Rattle.text_scan.proofs.negative.Tie as tie
 
-sub-result : tie.Need-overflow-sub-result
+sub-result : tie.Need-overflow_sub-result
 sub-result c = search rules
 
-cast-result : tie.Need-overflow-cast-result
+cast-result : tie.Need-overflow_cast-result
 cast-result c = search rules
 
-turned : (c : tie.Else1) → negsuc 0 -ℤ to_z w64 (c.before.args.n - 1) ≡ negsuc (c.before.args.n - 1)
-turned c = rw (to_z_pos w64 {n = c.before.args.n - 1} (omega arith)) (turn-pos _)
+turned : (c : tie.Else-n-eq0) → negsuc 0 -ℤ to_z w64 (c.args.n - 1) ≡ negsuc (c.args.n - 1)
+turned c = rw (to_z_pos w64 {n = c.args.n - 1} (omega arith)) (turn-pos _)
 
-fit : (c : tie.Else1) → SFits w64 (negsuc (c.before.args.n - 1))
+fit : (c : tie.Else-n-eq0) → SFits w64 (negsuc (c.args.n - 1))
 fit c = record { sfits = omega arith }
 
-sub-result-2 : tie.Need-overflow-sub-result-2
+sub-result-2 : tie.Need-overflow_sub-result-else-n-eq0
 sub-result-2 c = rw (turned c) (fit c)
 
-returns : tie.Need-returns
-returns c = rw c.if1.true
+returns : tie.Need-returns-then-n-eq0
+returns c = rw c.if-n-eq0.true
 
-returns-2 : tie.Need-returns-2
+returns-2 : tie.Need-returns-else-n-eq0
 returns-2 c = rw (turned c, to_z-of_z (fit c)) (negℤ_pos _ (omega arith))
 
-pub negative-spec : {M : Type 1} → statement M
-negative-spec = tie.close (tie.spec sub-result cast-result sub-result-2 returns returns-2)
+pub negative_spec : {M : Type 1} → statement M
+negative_spec = tie.close (tie.spec sub-result cast-result sub-result-2 returns returns-2)

@@ -21,52 +21,52 @@ beq-cond false false = refl
 isByte-beq : (b : ℕ) (same : Bool) (x : ℕ) → is_byte b same x ≡ beq (eqb x b) same
 isByte-beq b same x = beq-cond (eqb x b) same
 
-abbrev invariant-loop : tie.invariant-loop
+abbrev invariant-loop : tie.invariant-loop-i
 invariant-loop s at b same i₀ i = end_of_run (is_byte b same) s i ≡ end_of_run (is_byte b same) s at
 
-abbrev decreases-loop : tie.decreases-loop
+abbrev decreases-loop : tie.decreases-loop-i
 decreases-loop s at b same i₀ i = length s - i
 
 -- the bytes that the loop passes
-abbrev test : tie.At-loop invariant-loop decreases-loop → ℕ → Bool
+abbrev test : tie.At-loop-i invariant-loop decreases-loop → ℕ → Bool
 test t = is_byte t.before.args.b t.before.args.same
 
-loop-holds : tie.Need-loop-init invariant-loop decreases-loop
+loop-holds : tie.Need-loop-i-init invariant-loop decreases-loop
 loop-holds c = refl
 
-shared-slice-read-if1 : tie.Need-shared-slice-read-if1 invariant-loop decreases-loop
+shared-slice-read-if1 : tie.Need-bounds-s-i invariant-loop decreases-loop
 shared-slice-read-if1 c = omega arith
 
-returns : tie.Need-returns invariant-loop decreases-loop
+returns : tie.Need-returns-then-s-i invariant-loop decreases-loop
 returns c =
     let t = c.before.before.before in
     let p = test t in
-    let s = t.before.args.s.now in
-    run_end-here p s t.loop.i (run_none p s t.loop.i (omega arith) (isByte-beq t.before.args.b t.before.args.same (get_or s t.loop.i 0) ∙ not-true _ c.if1.true))
-    ∙ t.loop.invariant
+    let s = t.args.s.now in
+    run_end-here p s t.loop-i.i (run_none p s t.loop-i.i (omega arith) (isByte-beq t.args.b t.args.same (get_or s t.loop-i.i 0) ∙ not-true _ c.if-s-i.true))
+    ∙ t.loop-i.invariant
 
-add-i : tie.Need-overflow-add-i invariant-loop decreases-loop
+add-i : tie.Need-overflow_add-i invariant-loop decreases-loop
 add-i c = omega arith
 
-loop-less : tie.Need-loop-smaller invariant-loop decreases-loop
+loop-less : tie.Need-loop-i-smaller invariant-loop decreases-loop
 loop-less c = omega arith
 
-loop-again : tie.Need-loop-preserved invariant-loop decreases-loop
+loop-again : tie.Need-loop-i-preserved invariant-loop decreases-loop
 loop-again c =
     let t = c.before.before.before in
-    let s = t.before.args.s.now in
-    run_end-more (test t) s t.loop.i (omega arith) (isByte-beq t.before.args.b t.before.args.same (get_or s t.loop.i 0) ∙ not-false _ c.if1.false)
-    ∙ t.loop.invariant
+    let s = t.args.s.now in
+    run_end-more (test t) s t.loop-i.i (omega arith) (isByte-beq t.args.b t.args.same (get_or s t.loop-i.i 0) ∙ not-false _ c.if-s-i.false)
+    ∙ t.loop-i.invariant
 
-returns-2 : tie.Need-returns-2 invariant-loop decreases-loop
+returns-2 : tie.Need-returns invariant-loop decreases-loop
 returns-2 c =
     let t = c.before in
     let p = test t in
-    let s = t.before.args.s.now in
-    run_end-here p s t.loop.i (run-at-end p s t.loop.i c.loop-test.false) ∙ t.loop.invariant
+    let s = t.args.s.now in
+    run_end-here p s t.loop-i.i (run-at-end p s t.loop-i.i c.loop-i-test.false) ∙ t.loop-i.invariant
 
-pub run-end-spec : {M : Type 1} → statement M
-run-end-spec =
+pub run_end_spec : {M : Type 1} → statement M
+run_end_spec =
     tie.close
     (tie.spec
     invariant-loop

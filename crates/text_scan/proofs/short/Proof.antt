@@ -13,15 +13,15 @@ use Rattle.text_scan.proofs.short.Tie as tie
 signed-requires : tie.Need-signed-requires
 signed-requires c κs = search rules
 
-returns : tie.Need-returns
+returns : tie.Need-returns-then-n-eq0
 unfolding size_of
 returns c =
-    let s = c.before.before.before in
-    c.signed.ensures ∙ ap (λ (n : ℕ). fitted (2 ^ 63) (spelling s.args.minus n s.args.end)) (lower_only word _ _ c.before.if1.true)
+    let s = c in
+    c.signed.ensures ∙ ap (λ (n : ℕ). fitted (2 ^ 63) (spelling s.args.minus n s.args.end)) (lower_only word _ _ c.if-n-eq0.true)
 
-returns-2 : tie.Need-returns-2
+returns-2 : tie.Need-returns-else-n-eq0
 unfolding size_of
-returns-2 c = sym (fitted-big (2 ^ 63) _ _ _ (above_word (2 ^ 63) word _ _ (lit≤ tt) c.if1.false))
+returns-2 c = sym (fitted-big (2 ^ 63) _ _ _ (above_word (2 ^ 63) word _ _ (lit≤ tt) c.if-n-eq0.false))
 
-pub short-spec : {M : Type 1} → statement M
-short-spec = tie.close (tie.spec signed-requires returns returns-2)
+pub short_spec : {M : Type 1} → statement M
+short_spec = tie.close (tie.spec signed-requires returns returns-2)

@@ -10,25 +10,25 @@ use Rattle.text_scan.proofs.signed.Tie as tie
 negative-requires : tie.Need-negative-requires
 negative-requires c κs = search rules
 
-cast-t11 : tie.Need-overflow-cast-t11
+cast-t11 : tie.Need-overflow_cast-result
 cast-t11 c = search rules
 
-returns : tie.Need-returns
+returns : tie.Need-returns-then-n-le9223372036854775808
 unfolding fits fitted
 returns c =
-    rw (to_z-of_z (sfits_of c.negative.type-inv), c.negative.ensures, c.before.before.if1.true, le-leb _ _ c.before.if2.true)
+    rw (to_z-of_z (sfits_of c.negative.type_inv), c.negative.ensures, c.if-minus.true, le-leb _ _ c.if-n-le9223372036854775808.true)
 
-returns-2 : tie.Need-returns-2
+returns-2 : tie.Need-returns-else-n-le9223372036854775808
 unfolding fits fitted
-returns-2 c = rw (c.before.if1.true, lt-leb _ _ c.if2.false)
+returns-2 c = rw (c.if-minus.true, lt-leb _ _ c.if-n-le9223372036854775808.false)
 
-returns-3 : tie.Need-returns-3
+returns-3 : tie.Need-returns-then-n-lt9223372036854775808
 unfolding fits fitted
-returns-3 c = rw (c.before.if1.false, to_z_pos w64 {n = c.before.before.args.n} c.if3.true, lt-ltb _ _ c.if3.true)
+returns-3 c = rw (c.if-minus.false, to_z_pos w64 {n = c.args.n} c.if-n-lt9223372036854775808.true, lt-ltb _ _ c.if-n-lt9223372036854775808.true)
 
-returns-4 : tie.Need-returns-4
+returns-4 : tie.Need-returns-else-n-lt9223372036854775808
 unfolding fits fitted
-returns-4 c = rw (c.before.if1.false, le-ltb _ _ c.if3.false)
+returns-4 c = rw (c.if-minus.false, le-ltb _ _ c.if-n-lt9223372036854775808.false)
 
-pub signed-spec : {M : Type 1} → statement M
-signed-spec = tie.close (tie.spec negative-requires cast-t11 returns returns-2 returns-3 returns-4)
+pub signed_spec : {M : Type 1} → statement M
+signed_spec = tie.close (tie.spec negative-requires cast-t11 returns returns-2 returns-3 returns-4)

@@ -11,36 +11,36 @@ use Rattle.text_scan.specs.Number.{number_at}
 use Rattle.text_scan.proofs.spelled_at.Statement.{statement}
 use Rattle.text_scan.proofs.spelled_at.Tie as tie
 
-shared-slice-read-if2 : tie.Need-shared-slice-read-if2
+shared-slice-read-if2 : tie.Need-bounds-s-at
 shared-slice-read-if2 c = search rules
 
-add-spelled-from : tie.Need-overflow-add-spelled-from
+add-spelled-from : tie.Need-overflow_add-at
 add-spelled-from c = search rules
 
-spelled-from-requires : tie.Need-spelled-from-requires
+spelled-from-requires : tie.Need-spelled_from-requires
 spelled-from-requires c κs = search rules
 
-returns : tie.Need-returns
+returns : tie.Need-returns-then-s-at-eq45
 unfolding number_at
-returns c top h = rw (eq-eqb _ _ c.before.if2.true) (c.spelled-from.ensures top h)
+returns c top h = rw (eq-eqb _ _ c.if-s-at-eq45.true) (c.spelled_from.ensures top h)
 
-spelled-from-requires-2 : tie.Need-spelled-from-requires-2
+spelled-from-requires-2 : tie.Need-spelled_from-requires-2
 spelled-from-requires-2 c κs = search rules
 
-no_minus : (c : tie.Joined1) → eqb (get_or c.before.before.args.s.now c.before.before.args.at 0) 45 ≡ false
+no_minus : (c : tie.Joined-at-s) → eqb (get_or c.args.s.now c.args.at 0) 45 ≡ false
 no_minus c =
-    let s = c.before.before.args.s.now in
-    let at = c.before.before.args.at in
+    let s = c.args.s.now in
+    let at = c.args.at in
     ne_eqb (get_or s at 0) 45
-    (⊎_elim (λ w. w.2.left) (λ w e. omega (arith, e, get_or-eq_default s 0 w.left)) c.if1.branch)
+    (⊎_elim (λ w. w.2.left) (λ w e. omega (arith, e, get_or-eq_default s 0 w.left)) c.if-at-s.branch)
 
-returns-2 : tie.Need-returns-2
+returns-2 : tie.Need-returns
 unfolding number_at
 returns-2 c top h =
-    rw (no_minus c.before) (c.spelled-from2.ensures top h)
+    rw (no_minus c.before) (c.spelled_from-2.ensures top h)
 
-pub spelled-at-spec : {M : Type 1} → statement M
-spelled-at-spec =
+pub spelled_at_spec : {M : Type 1} → statement M
+spelled_at_spec =
     tie.close
     (tie.spec
     shared-slice-read-if2

@@ -1,7 +1,7 @@
 -- `wide` meets its contract. Assumes nothing.
 use Prim.Native.Nat.{◌^◌, ◌≤◌, ◌<◌}
 use mathlib.Core.Path.{◌≡◌, refl, sym, ap}
-use mathlib.Core.Bool.{true, false}
+use mathlib.Core.Bool.{true, false, not}
 use lib.IntN.{ℤ}
 use mir.Syntax.{w64}
 use mir.Val.{Fits}
@@ -44,35 +44,35 @@ low c = search rules
 signed-requires : tie.Need-signed-requires
 signed-requires c κs = search rules
 
-returns : tie.Need-returns
+returns : tie.Need-returns-then-n-lt9223372036854775808
 unfolding fitted
 returns c =
     let s = c.before.before.before in
-    rw (fits-small (2 ^ 127) s.args.minus _ (below s.args.n c.before.if1.true (low s).ranges)) (ap (λ (z : ℤ). value z s.args.end) c.signed.ensures)
+    rw (fits-small (2 ^ 127) s.args.minus _ (below s.args.n c.if-n-lt9223372036854775808.true (low s).fits)) (ap (λ (z : ℤ). value z s.args.end) c.signed.ensures)
 
-returns-2 : tie.Need-returns-2
+returns-2 : tie.Need-returns-then-not-minus
 unfolding fits fitted
 returns-2 c =
-    let s = c.before.before.before in
-    let m : s.args.minus ≡ false = not-true _ c.if2.true in
-    rw (m, le-ltb _ _ (at_least s.args.n c.before.if1.false)) refl
+    let s = c in
+    let m : s.args.minus ≡ false = c.if-not-minus.true in
+    rw (m, le-ltb _ _ (at_least s.args.n c.if-n-lt9223372036854775808.false)) refl
 
-returns-3 : tie.Need-returns-3
-returns-3 c = let s = c.before.before.before.before.before in sym (fitted-big (2 ^ 127) s.args.minus _ _ (above s.args.n c.if3.true))
+returns-3 : tie.Need-returns-then-n-gt9223372036854775808
+returns-3 c = let s = c in sym (fitted-big (2 ^ 127) s.args.minus _ _ (above s.args.n c.if-n-gt9223372036854775808.true))
 
-returns-4 : tie.Need-returns-4
+returns-4 : tie.Need-returns-then-n-gt0
 returns-4 c =
-    let e = c.before.before.before.before.before in
-    let s = e.before.before in
-    sym (fitted-big (2 ^ 127) s.args.minus _ _ (above_lower s.args.n e.if1.false c.if4.true))
+    let e = c in
+    let s = e in
+    sym (fitted-big (2 ^ 127) s.args.minus _ _ (above_lower s.args.n e.if-n-lt9223372036854775808.false c.if-n-gt0.true))
 
-returns-5 : tie.Need-returns-5
+returns-5 : tie.Need-returns
 unfolding fits fitted meaning
 returns-5 c =
-    let e = c.before.before.before.before in
-    let s = e.before.before.before in
-    let m : s.args.minus ≡ true = not-false _ e.if2.false in
-    rw (m, all s.args.n e.before.if1.false c.before.before.if3.false c.if4.false) refl
+    let e = c in
+    let s = e in
+    let m : s.args.minus ≡ true = not-false _ (ap not e.if-not-minus.false) in
+    rw (m, all s.args.n e.if-n-lt9223372036854775808.false c.if-n-gt9223372036854775808.false c.if-n-gt0.false) refl
 
 pub wide_spec : {M : Type 1} → statement M
 wide_spec = tie.close (tie.spec signed-requires returns returns-2 returns-3 returns-4 returns-5)

@@ -8,26 +8,26 @@ use Rattle.text_scan.specs.Number.{fitted, spelled_of}
 use Rattle.text_scan.proofs.wide_number_at.Statement.{statement}
 use Rattle.text_scan.proofs.wide_number_at.Tie as tie
 
-spelled-at-requires : tie.Need-spelled-at-requires
+spelled-at-requires : tie.Need-spelled_at-n-requires
 spelled-at-requires c κs = search rules
 
-enum-known-n : tie.Need-enum-known-n
+enum-known-n : tie.Need-enum_known-n
 enum-known-n c = search rules
 
 wide-requires : tie.Need-wide-requires
 wide-requires c κs = search rules
 
-enum_told : tie.Need-enum-told
+enum_told : tie.Need-enum_told-1
 enum_told c = search rules
 
-returns : tie.Need-returns
-returns c = c.wide.ensures ∙ sym (ap (λ (d : Spelled). fitted (2 ^ 127) (spelled_of d)) c.before.before.n.given.1) ∙ c.before.before.before.before.spelled_at.ensures (2 ^ 127) (lit≤ tt)
+returns : tie.Need-returns-in-Digits
+returns c = c.wide.ensures ∙ sym (ap (λ (d : Spelled). fitted (2 ^ 127) (spelled_of d)) c.in-Digits.is) ∙ c.spelled_at-n.ensures (2 ^ 127) (lit≤ tt)
 
-returns-2 : tie.Need-returns-2
+returns-2 : tie.Need-returns-in-Nothing
 unfolding fitted
-returns-2 c = sym (ap (λ (d : Spelled). fitted (2 ^ 127) (spelled_of d)) c.enum_told.given.1) ∙ c.before.before.spelled_at.ensures (2 ^ 127) (lit≤ tt)
+returns-2 c = sym (ap (λ (d : Spelled). fitted (2 ^ 127) (spelled_of d)) c.in-Nothing.is) ∙ c.spelled_at-n.ensures (2 ^ 127) (lit≤ tt)
 
-pub wide-number-at-spec : {M : Type 1} → statement M
-wide-number-at-spec =
+pub wide_number_at_spec : {M : Type 1} → statement M
+wide_number_at_spec =
     tie.close
     (tie.spec spelled-at-requires enum-known-n wide-requires enum_told returns returns-2)

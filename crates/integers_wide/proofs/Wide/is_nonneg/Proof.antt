@@ -5,16 +5,16 @@ use Rattle.integers_wide.specs.lemmas.Laws.{sign-upper}
 use Rattle.integers_wide.proofs.Wide.is_nonneg.Statement.{statement}
 use Rattle.integers_wide.proofs.Wide.is_nonneg.Tie as tie
 
-is-nonneg-requires : tie.Need-is-nonneg-requires
+is-nonneg-requires : tie.Need-is_nonneg-requires
 is-nonneg-requires c κs = search rules
 
 returns : tie.Need-returns
 unfolding meaning
 returns c =
-    let a = c.before.before.args.self in
+    let a = c.args.self in
     let f : Fits w64 a.lo = search rules in
     let g : SFits w64 a.hi = search rules in
-    c.is-nonneg.ensures ∙ ap non_neg (to_z-of_z g) ∙ sign-upper word a.lo a.hi f.fits
+    c.is_nonneg.ensures ∙ ap non_neg (to_z-of_z g) ∙ sign-upper word a.lo a.hi f.fits
 
-pub is-nonneg-spec : {M : Type 1} → statement M
-is-nonneg-spec = tie.close (tie.spec is-nonneg-requires returns)
+pub is_nonneg_spec : {M : Type 1} → statement M
+is_nonneg_spec = tie.close (tie.spec is-nonneg-requires returns)

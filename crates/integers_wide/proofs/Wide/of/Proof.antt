@@ -5,10 +5,10 @@ use Rattle.integers_wide.specs.lemmas.Signed.{by_size}
 use Rattle.integers_wide.proofs.Wide.of.Statement.{statement}
 use Rattle.integers_wide.proofs.Wide.of.Tie as tie
 
-abs-requires : tie.Need-abs-requires
+abs-requires : tie.Need-abs-n-requires
 abs-requires c κs = search rules
 
-is-nonneg-requires : tie.Need-is-nonneg-requires
+is-nonneg-requires : tie.Need-is_nonneg-requires
 is-nonneg-requires c κs = search rules
 
 signed-requires : tie.Need-signed-requires
@@ -23,9 +23,9 @@ lower n = go n word
 
 returns : tie.Need-returns
 returns c =
-    let a = c.before.before.before in
+    let a = c in
     c.signed.ensures
-    ∙ ap₂ (λ t n. turned_if (not t) (pos n)) (c.before.is-nonneg.ensures ∙ ap non_neg (to_z-of_z a.ranges.z)) (lower _ ∙ c.before.before.abs.ensures ∙ ap nat_abs (to_z-of_z a.ranges.z))
+    ∙ ap₂ (λ t n. turned_if (not t) (pos n)) (c.is_nonneg.ensures ∙ ap non_neg (to_z-of_z a.ranges.z)) (lower _ ∙ c.abs-n.ensures ∙ ap nat_abs (to_z-of_z a.ranges.z))
     ∙ by_size a.args.z
 
 pub of_spec : {M : Type 1} → statement M

@@ -9,19 +9,19 @@ use Rattle.integers_wide.proofs.Wide.product.Statement.{statement}
 use Rattle.integers_wide.proofs.Wide.product.Tie as tie
 
 -- what the calls say
-module _ (c : tie.After-product) where
+module _ (c : tie.After-product-s) where
   abbrev a : tie.Start
   a = c.before.before.before
 
-  size_is : size_of c.product.result ≡ nat_abs a.args.x * nat_abs a.args.y
+  size_is : size_of c.product-s.result ≡ nat_abs a.args.x * nat_abs a.args.y
   size_is =
-      c.product.ensures
-      ∙ ap₂ ◌*◌ (c.before.before.abs.ensures ∙ ap nat_abs (to_z-of_z a.fits.x)) (c.before.abs2.ensures ∙ ap nat_abs (to_z-of_z a.fits.y))
+      c.product-s.ensures
+      ∙ ap₂ ◌*◌ (c.abs.ensures ∙ ap nat_abs (to_z-of_z a.ranges.x)) (c.abs-2.ensures ∙ ap nat_abs (to_z-of_z a.ranges.y))
 
-  size-le : size_of c.product.result ≤ 2 ^ 62 * word + 0
-  size-le = rw size_is (mul-le-mul (fits→size a.fits.x) (fits→size a.fits.y))
+  size-le : size_of c.product-s.result ≤ 2 ^ 62 * word + 0
+  size-le = rw size_is (mul-le-mul (fits→size a.ranges.x) (fits→size a.ranges.y))
 
-  upper : c.product.result.hi ≤ 2 ^ 62
+  upper : c.product-s.result.hi ≤ 2 ^ 62
   unfolding size_of
   upper = upper-le word _ _ (2 ^ 62) 0 (omega arith) size-le
 
@@ -31,13 +31,13 @@ abs-requires c κs = search rules
 abs-requires-2 : tie.Need-abs-requires-2
 abs-requires-2 c κs = search rules
 
-product-requires : tie.Need-product-requires
+product-requires : tie.Need-product-s-requires
 product-requires c κs = search rules
 
-is-nonneg-requires : tie.Need-is-nonneg-requires
+is-nonneg-requires : tie.Need-is_nonneg-requires
 is-nonneg-requires c κs = search rules
 
-is-nonneg-requires-2 : tie.Need-is-nonneg-requires-2
+is-nonneg-requires-2 : tie.Need-is_nonneg-requires-2
 is-nonneg-requires-2 c κs = search rules
 
 signed-requires : tie.Need-signed-requires
@@ -47,13 +47,13 @@ returns : tie.Need-returns
 returns c =
     let m = c.before.before.before in
     c.signed.ensures
-    ∙ ap₂ (λ s t. turned_if (not (beq s t)) (pos (size_of m.product.result))) (c.before.before.is-nonneg.ensures ∙ ap non_neg (to_z-of_z (a m).ranges.x))
-    (c.before.is-nonneg2.ensures ∙ ap non_neg (to_z-of_z (a m).ranges.y))
+    ∙ ap₂ (λ s t. turned_if (not (beq s t)) (pos (size_of m.product-s.result))) (c.is_nonneg.ensures ∙ ap non_neg (to_z-of_z (a m).ranges.x))
+    (c.is_nonneg-2.ensures ∙ ap non_neg (to_z-of_z (a m).ranges.y))
     ∙ ap (λ n. turned_if (not (beq (non_neg (a m).args.x) (non_neg (a m).args.y))) (pos n)) (size_is m)
     ∙ product-size (a m).args.x (a m).args.y
 
-pub product-spec : {M : Type 1} → statement M
-product-spec =
+pub product_spec : {M : Type 1} → statement M
+product_spec =
     tie.close
     (tie.spec
     abs-requires

@@ -7,9 +7,9 @@ use Rattle.integers_wide.proofs.Wide.size.Statement.{statement}
 use Rattle.integers_wide.proofs.Wide.size.Tie as tie
 
 -- what the calls say of the upper word
-module _ (c : tie.After-is-nonneg) where
+module _ (c : tie.After-is_nonneg) where
   abbrev x : Wide
-  x = c.before.before.before.before.args.self
+  x = c.args.self
 
   low : Fits w64 x.lo
   low = search rules
@@ -17,53 +17,53 @@ module _ (c : tie.After-is-nonneg) where
   high : SFits w64 x.hi
   high = search rules
 
-  size_is : c.before.before.abs.result ≡ nat_abs x.hi
-  size_is = c.before.before.abs.ensures ∙ ap nat_abs (to_z-of_z high)
+  size_is : c.abs-n.result ≡ nat_abs x.hi
+  size_is = c.abs-n.ensures ∙ ap nat_abs (to_z-of_z high)
 
-  sign-is : c.is-nonneg.result ≡ non_neg x.hi
-  sign-is = c.is-nonneg.ensures ∙ ap non_neg (to_z-of_z high)
+  sign-is : c.is_nonneg.result ≡ non_neg x.hi
+  sign-is = c.is_nonneg.ensures ∙ ap non_neg (to_z-of_z high)
 
-abs-requires : tie.Need-abs-requires
+abs-requires : tie.Need-abs-n-requires
 abs-requires c κs = search rules
 
-is-nonneg-requires : tie.Need-is-nonneg-requires
+is-nonneg-requires : tie.Need-is_nonneg-requires
 is-nonneg-requires c κs = search rules
 
-returns : tie.Need-returns
+returns : tie.Need-returns-then-is_nonneg
 unfolding size_of meaning
 returns c =
     let n = c.before in
-    rw (size_is n) (size-plus word (x n).lo (x n).hi (sym (sign-is n) ∙ c.if1.true))
+    rw (size_is n) (size-plus word (x n).lo (x n).hi (sym (sign-is n) ∙ c.if-is_nonneg.true))
 
-sub-t6 : tie.Need-overflow-sub-t6
+sub-t6 : tie.Need-overflow_sub-result
 sub-t6 c =
     let n = c.before.before.before in
-    rw (size_is n) (some_upper (x n).hi (sym (sign-is n) ∙ c.before.before.if1.false))
+    rw (size_is n) (some_upper (x n).hi (sym (sign-is n) ∙ c.if-is_nonneg.false))
 
-sub-t7 : tie.Need-overflow-sub-t7
+sub-t7 : tie.Need-overflow_sub-result-else-self-eq0
 sub-t7 c = search rules
 
-add-t8 : tie.Need-overflow-add-t8
+add-t8 : tie.Need-overflow_add-result
 add-t8 c = search rules
 
-returns-2 : tie.Need-returns-2
+returns-2 : tie.Need-returns-then-self-eq0
 unfolding size_of meaning
 returns-2 c =
     let n = c.before.before.before in
-    rw (size_is n) (size_none word (x n).lo (x n).hi (sym (sign-is n) ∙ c.before.before.if1.false) c.if2.true)
+    rw (size_is n) (size_none word (x n).lo (x n).hi (sym (sign-is n) ∙ c.if-is_nonneg.false) c.if-self-eq0.true)
 
-lower : (c : tie.After-struct-known2)
+lower : (c : tie.After-struct_known-else-self-eq0-1)
     → let n = c.before.before.before.before in
     ((x n).lo < word) × (18446744073709551615 - (x n).lo + 1 + (x n).lo ≡ word)
 lower c = ((low c.before.before.before.before).fits, omega arith)
 
-returns-3 : tie.Need-returns-3
+returns-3 : tie.Need-returns-else-self-eq0
 unfolding size_of meaning
 returns-3 c =
     let n = c.before.before.before.before in
-    rw (size_is n) (size-borrow word (x n).lo _ (x n).hi (lower c).0 (sym (sign-is n) ∙ c.before.before.before.if1.false) (lower c).1)
+    rw (size_is n) (size-borrow word (x n).lo _ (x n).hi (lower c).0 (sym (sign-is n) ∙ c.if-is_nonneg.false) (lower c).1)
 
-pub size-spec : {M : Type 1} → statement M
-size-spec =
+pub size_spec : {M : Type 1} → statement M
+size_spec =
     tie.close
     (tie.spec abs-requires is-nonneg-requires returns sub-t6 sub-t7 add-t8 returns-2 returns-3)

@@ -8,39 +8,39 @@ use Rattle.plane_lengths.proofs.Casts.{widen_fits, widened}
 use Rattle.plane_estimates.proofs.fraction.at_chord.Statement.{statement}
 use Rattle.plane_estimates.proofs.fraction.at_chord.Tie as tie
 
-cast-abs : tie.Need-overflow-cast-abs
+cast-abs : tie.Need-overflow_cast-w
 cast-abs c = widen_fits tt c.ranges.w
 
-abs-requires : tie.Need-abs-requires
+abs-requires : tie.Need-abs-h-requires
 abs-requires c κs = search rules
 
 inner-requires : tie.Need-inner-requires
 inner-requires c κs = search rules
 
-abs-requires-2 : tie.Need-abs-requires-2
+abs-requires-2 : tie.Need-abs-f-requires
 abs-requires-2 c κs = search rules
 
 -- n², the squared length of (x, y) and their product
-module _ (c : tie.After-abs2) where
+module _ (c : tie.After-abs-f) where
   abbrev s : tie.Start
   s = c.before.before.before
 
-  w-size : c.before.before.abs.result ≤ 1000000
-  w-size = rw (c.before.before.abs.ensures, widened tt s.fits.w) s.pre.1
+  w-size : c.abs-h.result ≤ 1000000
+  w-size = rw (c.abs-h.ensures, widened tt s.ranges.w) s.requires.1
 
   squares : s.args.n * s.args.n ≤ 10000
-  squares = mul-le-mul s.pre.0 s.pre.0
+  squares = mul-le-mul s.requires.0 s.requires.0
 
-  norm : c.abs2.result ≤ 2 ^ 31
-  norm = rw (c.abs2.ensures, back w64 c.before.inner.type-inv) c.before.inner.ensures.1
+  norm : c.abs-f.result ≤ 2 ^ 31
+  norm = rw (c.abs-f.ensures, back w64 c.inner.type_inv) c.inner.ensures.1
 
-  product : s.args.n * s.args.n * c.abs2.result ≤ 2 ^ 45
+  product : s.args.n * s.args.n * c.abs-f.result ≤ 2 ^ 45
   product = omega (arith, mul-le-mul squares norm)
 
-mul-multiple : tie.Need-overflow-mul-multiple
+mul-multiple : tie.Need-overflow_mul-m
 mul-multiple c = omega (arith, squares c)
 
-mul-multiple-2 : tie.Need-overflow-mul-multiple-2
+mul-multiple-2 : tie.Need-overflow_mul-m-2
 mul-multiple-2 c = omega (arith, product c)
 
 cross-requires : tie.Need-cross-requires
@@ -49,10 +49,10 @@ cross-requires c κs = search rules
 inner-requires-2 : tie.Need-inner-requires-2
 inner-requires-2 c κs = search rules
 
-multiple-requires : tie.Need-multiple-requires
+multiple-requires : tie.Need-multiple-g-requires
 multiple-requires c κs =
     let k = c.before.before in
-    (w-size k, product k, c.before.cross.ensures, rw (back w64 c.inner2.type-inv) c.inner2.ensures.1)
+    (w-size k, product k, c.cross.ensures, rw (back w64 c.inner-2.type_inv) c.inner-2.ensures.1)
 
 larger-requires : tie.Need-larger-requires
 larger-requires c κs = search rules
@@ -60,14 +60,14 @@ larger-requires c κs = search rules
 larger-requires-2 : tie.Need-larger-requires-2
 larger-requires-2 c κs = search rules
 
-fraction-of-requires : tie.Need-fraction-of-requires
+fraction-of-requires : tie.Need-fraction_of-requires
 fraction-of-requires c κs = search rules
 
 returns : tie.Need-returns
 returns c = search rules
 
-pub at-chord-spec : {M : Type 1} → statement M
-at-chord-spec =
+pub at_chord_spec : {M : Type 1} → statement M
+at_chord_spec =
     tie.close
     (tie.spec
     cast-abs

@@ -6,51 +6,51 @@ use borrow.Author.Rules.{rules}
 use Rattle.plane_estimates.proofs.fraction.multiple.Statement.{statement}
 use Rattle.plane_estimates.proofs.fraction.multiple.Tie as tie
 
-mul-if1 : tie.Need-overflow-mul-if1
+mul-if1 : tie.Need-overflow_mul-w
 mul-if1 c = omega (arith, mul-le-mul c.requires.0 c.requires.0)
 
-returns : tie.Need-returns
+returns : tie.Need-returns-then-minus
 returns c = search rules
 
-returns-2 : tie.Need-returns-2
+returns-2 : tie.Need-returns-else-minus
 returns-2 c = search rules
 
-mul-divided : tie.Need-overflow-mul-divided
-mul-divided c = let p = c.before.requires in omega (arith, mul-le-mul p.2 p.0)
+mul-divided : tie.Need-overflow_mul-c
+mul-divided c = let p = c.requires in omega (arith, mul-le-mul p.2 p.0)
 
-mul-divided-2 : tie.Need-overflow-mul-divided-2
-mul-divided-2 c = let p = c.before.requires in omega (arith, mul-le-mul p.2 p.0)
+mul-divided-2 : tie.Need-overflow_mul-c-2
+mul-divided-2 c = let p = c.requires in omega (arith, mul-le-mul p.2 p.0)
 
-mul-ceil-sqrt : tie.Need-overflow-mul-ceil-sqrt
+mul-ceil-sqrt : tie.Need-overflow_mul-w-2
 mul-ceil-sqrt c = search rules
 
-sub-ceil-sqrt : tie.Need-overflow-sub-ceil-sqrt
+sub-ceil-sqrt : tie.Need-overflow_sub-g
 sub-ceil-sqrt c = search rules
 
-mul-ceil-sqrt-2 : tie.Need-overflow-mul-ceil-sqrt-2
+mul-ceil-sqrt-2 : tie.Need-overflow_mul-g
 mul-ceil-sqrt-2 c = search rules
 
-ceil-sqrt-requires : tie.Need-ceil-sqrt-requires
+ceil-sqrt-requires : tie.Need-ceil_sqrt-requires
 ceil-sqrt-requires c κs = search rules
 
-divided-requires : tie.Need-divided-requires
+divided-requires : tie.Need-divided-t-requires
 divided-requires c κs = search rules
 
-abs-requires : tie.Need-abs-requires
+abs-requires : tie.Need-abs-e-requires
 abs-requires c κs = search rules
 
 -- the numbers that are added up
-module _ (c : tie.After-abs) where
+module _ (c : tie.After-abs-e) where
   abbrev s : tie.Start
   s = c.before.before.before.before
 
-  along : c.abs.result ≤ 2 ^ 31
-  along = rw (c.abs.ensures, to_z-of_z s.fits.d) s.pre.3
+  along : c.abs-e.result ≤ 2 ^ 31
+  along = rw (c.abs-e.ensures, to_z-of_z s.ranges.d) s.requires.3
 
-  across : c.before.divided.result ≤ 2 ^ 31 * 1000000 * 4096
-  across = omega (arith, c.before.divided.ensures, mul-le-mul s.pre.2 s.pre.0)
+  across : c.divided-t.result ≤ 2 ^ 31 * 1000000 * 4096
+  across = omega (arith, c.divided-t.ensures, mul-le-mul s.requires.2 s.requires.0)
 
-mul-e : tie.Need-overflow-mul-e
+mul-e : tie.Need-overflow_mul-e
 mul-e c = omega (arith, along c)
 
 kept-requires : tie.Need-kept-requires
@@ -59,8 +59,8 @@ kept-requires c κs = search rules
 kept-requires-2 : tie.Need-kept-requires-2
 kept-requires-2 c κs = search rules
 
-add-up : tie.Need-overflow-add-up
-add-up c = let k = c.before.before in omega (arith, along k, across k, c.kept2.ensures, c.before.kept.ensures)
+add-up : tie.Need-overflow_add-up
+add-up c = let k = c.before.before in omega (arith, along k, across k, c.kept-2.ensures, c.kept.ensures)
 
 kept-requires-3 : tie.Need-kept-requires-3
 kept-requires-3 c κs = search rules
@@ -68,29 +68,29 @@ kept-requires-3 c κs = search rules
 kept-requires-4 : tie.Need-kept-requires-4
 kept-requires-4 c κs = search rules
 
-add-down : tie.Need-overflow-add-down
-add-down c = let k = c.before.before.before.before in omega (arith, along k, across k, c.kept4.ensures, c.before.kept3.ensures)
+add-down : tie.Need-overflow_add-down
+add-down c = let k = c.before.before.before.before in omega (arith, along k, across k, c.kept-4.ensures, c.kept-3.ensures)
 
-returns-3 : tie.Need-returns-3
+returns-3 : tie.Need-returns-then-up-down
 returns-3 c = search rules
 
-sub-divided : tie.Need-overflow-sub-divided
+sub-divided : tie.Need-overflow_sub-up
 sub-divided c = search rules
 
-divided-requires-2 : tie.Need-divided-requires-2
+divided-requires-2 : tie.Need-divided-r-requires
 divided-requires-2 c κs = search rules
 
-add-result : tie.Need-overflow-add-result
+add-result : tie.Need-overflow_add-result
 add-result c = search rules
 
-returns-4 : tie.Need-returns-4
+returns-4 : tie.Need-returns-then-r-lt1099511627776
 returns-4 c = search rules
 
-returns-5 : tie.Need-returns-5
+returns-5 : tie.Need-returns-else-r-lt1099511627776
 returns-5 c = search rules
 
-pub multiple-spec : {M : Type 1} → statement M
-multiple-spec =
+pub multiple_spec : {M : Type 1} → statement M
+multiple_spec =
     tie.close
     (tie.spec
     mul-if1

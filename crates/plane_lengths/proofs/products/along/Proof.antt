@@ -40,32 +40,32 @@ module _ (c : tie.Start) where
   sum_fits : SFits w64 (x +ℤ y)
   sum_fits = size→fits (omega (arith, size-+ x y, x-size, y-size))
 
-cast-result : tie.Need-overflow-cast-result
+cast-result : tie.Need-overflow_cast-result
 cast-result c = search rules
 
-cast-result-2 : tie.Need-overflow-cast-result-2
+cast-result-2 : tie.Need-overflow_cast-result-2
 cast-result-2 c = widen_fits tt c.ranges.u
 
-mul-result : tie.Need-overflow-mul-result
+mul-result : tie.Need-overflow_mul-result
 mul-result c = rw (q-is c, widened tt c.ranges.u) (x_fits c)
 
-cast-result-3 : tie.Need-overflow-cast-result-3
+cast-result-3 : tie.Need-overflow_cast-result-3
 cast-result-3 c = search rules
 
-cast-result-4 : tie.Need-overflow-cast-result-4
+cast-result-4 : tie.Need-overflow_cast-result-4
 cast-result-4 c = widen_fits tt c.ranges.z
 
-mul-result-2 : tie.Need-overflow-mul-result-2
+mul-result-2 : tie.Need-overflow_mul-result-2
 mul-result-2 c = rw (p-is c, widened tt c.ranges.z) (y-fits c)
 
-add-result : tie.Need-overflow-add-result
+add-result : tie.Need-overflow_add-result
 add-result c = rw (q-is c, widened tt c.ranges.u, to_z-of_z (x_fits c), p-is c, widened tt c.ranges.z, to_z-of_z (y-fits c)) (sum_fits c)
 
 returns : tie.Need-returns
 returns c = rw (q-is c, widened tt c.ranges.u, to_z-of_z (x_fits c), p-is c, widened tt c.ranges.z, to_z-of_z (y-fits c), to_z-of_z (sum_fits c)) refl
 
-pub along-spec : {M : Type 1} → statement M
-along-spec =
+pub along_spec : {M : Type 1} → statement M
+along_spec =
     tie.close
     (tie.spec
     cast-result

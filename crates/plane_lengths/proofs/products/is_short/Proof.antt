@@ -10,7 +10,7 @@ abs-requires : tie.Need-abs-requires
 abs-requires c κs = search rules
 
 returns : tie.Need-returns
-returns c = ap (λ (n : ℕ). leb n 5000000) (rw (to_z-of_z c.before.ranges.a) at c.abs.ensures)
+returns c = ap (λ (n : ℕ). leb n 5000000) (rw (to_z-of_z c.ranges.a) at c.abs.ensures)
 
-pub is-short-spec : {M : Type 1} → statement M
-is-short-spec = tie.close (tie.spec abs-requires returns)
+pub is_short_spec : {M : Type 1} → statement M
+is_short_spec = tie.close (tie.spec abs-requires returns)

@@ -31,23 +31,23 @@ module _ (c : tie.Start) where
   fits : SFits w64 (pos c.args.m -ℤ x)
   fits = size→fits (omega (arith, size-- (pos c.args.m) x, x-size, c.requires.0))
 
-cast-result : tie.Need-overflow-cast-result
+cast-result : tie.Need-overflow_cast-result
 cast-result c = search rules
 
-cast-result-2 : tie.Need-overflow-cast-result-2
+cast-result-2 : tie.Need-overflow_cast-result-2
 cast-result-2 c = search rules
 
-cast-result-3 : tie.Need-overflow-cast-result-3
+cast-result-3 : tie.Need-overflow_cast-result-3
 cast-result-3 c = widen_fits tt c.ranges.w
 
-mul-result : tie.Need-overflow-mul-result
+mul-result : tie.Need-overflow_mul-result
 mul-result c = rw (p-is c, widened tt c.ranges.w) (x_fits c)
 
-sub-result : tie.Need-overflow-sub-result
+sub-result : tie.Need-overflow_sub-result
 sub-result c = rw (m-is c, p-is c, widened tt c.ranges.w, to_z-of_z (x_fits c)) (fits c)
 
 returns : tie.Need-returns
 returns c = rw (m-is c, p-is c, widened tt c.ranges.w, to_z-of_z (x_fits c), to_z-of_z (fits c)) refl
 
-pub less-spec : {M : Type 1} → statement M
-less-spec = tie.close (tie.spec cast-result cast-result-2 cast-result-3 mul-result sub-result returns)
+pub less_spec : {M : Type 1} → statement M
+less_spec = tie.close (tie.spec cast-result cast-result-2 cast-result-3 mul-result sub-result returns)

@@ -30,20 +30,20 @@ module _ (c : tie.Start) where
   fits : SFits w64 (m *ℤ c.args.t)
   fits = size→fits (omega (arith, size))
 
-cast-result : tie.Need-overflow-cast-result
+cast-result : tie.Need-overflow_cast-result
 cast-result c = search rules
 
-cast-result-2 : tie.Need-overflow-cast-result-2
+cast-result-2 : tie.Need-overflow_cast-result-2
 cast-result-2 c = search rules
 
-mul-result : tie.Need-overflow-mul-result
+mul-result : tie.Need-overflow_mul-result
 mul-result c = rw (n_is c) (m-fits c)
 
-mul-result-2 : tie.Need-overflow-mul-result-2
+mul-result-2 : tie.Need-overflow_mul-result-2
 mul-result-2 c = rw (n_is c, to_z-of_z (m-fits c), to_z-of_z c.ranges.t) (fits c)
 
 returns : tie.Need-returns
 returns c = rw (n_is c, to_z-of_z (m-fits c), to_z-of_z c.ranges.t, to_z-of_z (fits c)) (refl, size c)
 
-pub multiplied-spec : {M : Type 1} → statement M
-multiplied-spec = tie.close (tie.spec cast-result cast-result-2 mul-result mul-result-2 returns)
+pub multiplied_spec : {M : Type 1} → statement M
+multiplied_spec = tie.close (tie.spec cast-result cast-result-2 mul-result mul-result-2 returns)

@@ -16,7 +16,7 @@ use Rattle.plane_lengths.specs.Rounded.{limit, quotient_low, quotient_high}
 use Rattle.plane_lengths.proofs.products.quotient.Statement.{statement}
 use Rattle.plane_lengths.proofs.products.quotient.Tie as tie
 
-cast-s : tie.Need-overflow-cast-s
+cast-s : tie.Need-overflow_cast-s
 cast-s c = search rules
 
 module _ (c : tie.Start) where
@@ -54,42 +54,42 @@ module _ (c : tie.Start) where
   r-fits : SFits w64 (pos d -ℤ pos limit)
   r-fits = size→fits (omega (arith, size-- (pos d) (pos limit), d-size))
 
-mul-s : tie.Need-overflow-mul-s
+mul-s : tie.Need-overflow_mul-s
 mul-s c = rw (q-is c) (product-fits c)
 
-add-s : tie.Need-overflow-add-s
+add-s : tie.Need-overflow_add-s
 add-s c = rw (t-is c, q-is c, to_z-of_z (product-fits c)) (s-fits c)
 
-returns : tie.Need-returns
-returns c = quotient_low _ _ (lt_z_true _ _ (rw (s-is c.before) at c.if1.true))
+returns : tie.Need-returns-then-s-lt0
+returns c = quotient_low _ _ (lt_z_true _ _ (rw (s-is c.before) at c.if-s-lt0.true))
 
 -- where s is not negative
-nn : (c : tie.Else1) → pos 0 ≼ s c.before
-nn c = lt_z_false _ _ (rw (s-is c.before) at c.if1.false)
+nn : (c : tie.Else-s-lt0) → pos 0 ≼ s c.before
+nn c = lt_z_false _ _ (rw (s-is c.before) at c.if-s-lt0.false)
 
-cast-result : tie.Need-overflow-cast-result
+cast-result : tie.Need-overflow_cast-result
 cast-result c = rw (s-is c.before) (yes_non_neg (nn c), omega (arith, s-size c.before))
 
-sub-result : tie.Need-overflow-sub-result
+sub-result : tie.Need-overflow_sub-result
 sub-result c = search rules
 
-add-result : tie.Need-overflow-add-result
-add-result c = rw (s-is c.before) (omega (arith, s-size c.before, c.before.requires.2))
+add-result : tie.Need-overflow_add-result
+add-result c = rw (s-is c.before) (omega (arith, s-size c.before, c.requires.2))
 
-div-result : tie.Need-nonzero-div-result
+div-result : tie.Need-nonzero_div-result
 div-result c = search rules
 
-cast-result-2 : tie.Need-overflow-cast-result-2
+cast-result-2 : tie.Need-overflow_cast-result-2
 cast-result-2 c = rw (s-is c.before) (size→fits (omega (arith, d-size c.before)))
 
-sub-result-2 : tie.Need-overflow-sub-result-2
+sub-result-2 : tie.Need-overflow_sub-result-2
 sub-result-2 c = rw (s-is c.before, d-is c.before) (r-fits c.before)
 
-returns-2 : tie.Need-returns-2
-returns-2 c = rw (s-is c.before, d-is c.before, to_z-of_z (r-fits c.before)) (quotient_high _ _ c.before.requires.1 (nn c))
+returns-2 : tie.Need-returns
+returns-2 c = rw (s-is c.before, d-is c.before, to_z-of_z (r-fits c.before)) (quotient_high _ _ c.requires.1 (nn c))
 
-pub quotient-spec : {M : Type 1} → statement M
-quotient-spec =
+pub quotient_spec : {M : Type 1} → statement M
+quotient_spec =
     tie.close
     (tie.spec
     cast-s

@@ -15,23 +15,23 @@ fits c =
     let k = size-*≤ (c.args.u *ℤ c.args.v) c.args.a (32768 * 32768) 2147483648 h (fits→size c.ranges.a) in
     (sfits_widen tt c.ranges.u, sfits_widen tt c.ranges.v, size→fits (omega arith), sfits_widen tt c.ranges.a, size→fits (omega arith))
 
-cast-result : tie.Need-overflow-cast-result
+cast-result : tie.Need-overflow_cast-result
 cast-result c = let h = fits c in search rules
 
-cast-result-2 : tie.Need-overflow-cast-result-2
+cast-result-2 : tie.Need-overflow_cast-result-2
 cast-result-2 c = let h = fits c in search rules
 
-mul-result : tie.Need-overflow-mul-result
+mul-result : tie.Need-overflow_mul-result
 mul-result c = let h = fits c in search rules
 
-cast-result-3 : tie.Need-overflow-cast-result-3
+cast-result-3 : tie.Need-overflow_cast-result-3
 cast-result-3 c = let h = fits c in search rules
 
-mul-result-2 : tie.Need-overflow-mul-result-2
+mul-result-2 : tie.Need-overflow_mul-result-2
 mul-result-2 c = let h = fits c in search rules
 
 returns : tie.Need-returns
 returns c = let h = fits c in search rules
 
-pub term-spec : {M : Type 1} → statement M
-term-spec = tie.close (tie.spec cast-result cast-result-2 mul-result cast-result-3 mul-result-2 returns)
+pub term_spec : {M : Type 1} → statement M
+term_spec = tie.close (tie.spec cast-result cast-result-2 mul-result cast-result-3 mul-result-2 returns)

@@ -4,29 +4,29 @@ use Rattle.text.proofs.Digits.{decimal-digits}
 use Rattle.text.proofs.write.put_long.Statement.{statement}
 use Rattle.text.proofs.write.put_long.Tie as tie
 
-decimal-requires : tie.Need-decimal-requires
+decimal-requires : tie.Need-decimal-k-requires
 decimal-requires c κs = search rules
 
-array-share-prefix-digits : tie.Need-array-share-prefix-digits
+array-share-prefix-digits : tie.Need-slice_bounds-digits-end
 array-share-prefix-digits c = search rules
 
-slice-aggregate-put-bytes : tie.Need-slice-aggregate-put-bytes
+slice-aggregate-put-bytes : tie.Need-slice_bounds-put_bytes-end
 slice-aggregate-put-bytes c = search rules
 
-put-bytes-requires : tie.Need-put-bytes-requires
+put-bytes-requires : tie.Need-put_bytes-requires
 put-bytes-requires c κs = search rules
 
-same_length : tie.Need-same-length
+same_length : tie.Need-shape_of-out
 same_length c = search rules
 
 returns : tie.Need-returns
 returns c =
-    let d = c.before.before.before.before.before in
-    rw (decimal-digits d.decimal.result d.before.before.before.args.n d.decimal.ensures.1.0, ← d.decimal.ensures.1.1)
-    c.before.before.put-bytes.ensures
+    let d = c in
+    rw (decimal-digits d.decimal-k.result d.args.n d.decimal-k.ensures.1.0, ← d.decimal-k.ensures.1.1)
+    c.put_bytes.ensures
 
-pub put-long-spec : {M : Type 1} → statement M
-put-long-spec =
+pub put_long_spec : {M : Type 1} → statement M
+put_long_spec =
     tie.close
     (tie.spec
     decimal-requires
