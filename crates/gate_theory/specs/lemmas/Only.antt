@@ -16,7 +16,7 @@ use Rattle.gate_theory.specs.Matrix.{Matrix, ◌·◌, scale, matrix, product, H
 use Rattle.gate_theory.specs.lemmas.Letters.{back-turn, T-made}
 use Rattle.gate_theory.specs.lemmas.Spelled.{goes_on, syllable-spells}
 use Rattle.gate_theory.specs.lemmas.Base.{tail-spells}
-use Rattle.gate_theory.specs.Normal.{Same, Alphabetical, ends, first, later, Leads, Tail, Body, tails, syllabic, Normal, plainly, with-T}
+use Rattle.gate_theory.specs.Normal.{Same, rank, Alphabetical, ends, first, later, Leads, Tail, Body, tails, syllabic, Normal, plainly, with-T}
 use Rattle.gate_theory.specs.lemmas.Cancel.{scale-cancel}
 use Rattle.gate_theory.specs.lemmas.Unique.{Reduced, Alike, spelled-alike, ready_reduced}
 use Rattle.gate_theory.specs.Tailed.{clifford, tail-is, normal}
@@ -26,12 +26,29 @@ use Rattle.gate_theory.specs.lemmas.Alike.{body_alike, spells_alike, bodies}
 use Rattle.gate_theory.specs.lemmas.Before.{prior}
 
 -- ---- one tail
+anti_at : {v w v' w' : List Letter} → Alphabetical v w → Alphabetical w' v' → v ≡ v' → w ≡ w' → v ≡ w
+anti_at ends b p q = refl
+anti_at (first l) ends p q = let z : ⊥ = cc in absurd z
+anti_at (first {x} {y} l) (first {x = y'} {y = x'} m) p q =
+    let e : x ≡ x' = cc in
+    let f : y ≡ y' = cc in
+    absurd (omega (arith, ap rank e, ap rank f))
+anti_at (first {x} {y} l) (later {x = z} b) p q =
+    let e : x ≡ z = cc in
+    let f : y ≡ z = cc in
+    absurd (omega (arith, ap rank e, ap rank f))
+anti_at (later a) ends p q = let z : ⊥ = cc in absurd z
+anti_at (later {x} a) (first {x = y} {y = z} m) p q =
+    let e : x ≡ z = cc in
+    let f : x ≡ y = cc in
+    absurd (omega (arith, ap rank e, ap rank f))
+anti_at (later {x} {v} {w} a) (later {v = w'} {w = v'} b) p q =
+    let e : v ≡ v' = cc in
+    let f : w ≡ w' = cc in
+    ap (λ t. x ∷ t) (anti_at a b e f)
+
 anti : (v w : List Letter) → Alphabetical v w → Alphabetical w v → v ≡ w
-anti [] [] ends ends = refl
-anti (x ∷ v) (y ∷ w) (first l) (first m) = absurd (omega arith)
-anti (x ∷ v) (y ∷ w) (first l) (later a) = absurd (omega arith)
-anti (x ∷ v) (y ∷ w) (later a) (first l) = absurd (omega arith)
-anti (x ∷ v) (y ∷ w) (later a) (later b) = ap (λ t. x ∷ t) (anti v w a b)
+anti v w a b = anti_at a b refl refl
 
 leads_anti : (v w : List Letter) → Leads v w → Leads w v → v ≡ w
 leads_anti v w (inl a) (inl b) = absurd (omega arith)

@@ -11,55 +11,55 @@ use borrow.Author.Rules.{rules}
 use Rattle.ring_points.proofs.point_at.Statement.{statement}
 use Rattle.ring_points.proofs.point_at.Tie as tie
 
-mul-t3 : tie.Need-overflow-mul-t3
+mul-t3 : tie.Need-overflow_mul-result
 mul-t3 c = search rules
 
-mul-t4 : tie.Need-overflow-mul-t4
+mul-t4 : tie.Need-offset_bounds-points-i
 mul-t4 c = search rules
 
-shared-slice-copy-out-t6 : tie.Need-shared-slice-copy-out-t6
+shared-slice-copy-out-t6 : tie.Need-bounds-points-i
 shared-slice-copy-out-t6 c = search rules
 
-mul-t7 : tie.Need-overflow-mul-t7
+mul-t7 : tie.Need-overflow_mul-result-2
 mul-t7 c = search rules
 
-add-t8 : tie.Need-overflow-add-t8
+add-t8 : tie.Need-overflow_add-result
 add-t8 c = search rules
 
-mul-t9 : tie.Need-overflow-mul-t9
+mul-t9 : tie.Need-offset_bounds-points-i-2
 mul-t9 c = search rules
 
-shared-slice-copy-out-t11 : tie.Need-shared-slice-copy-out-t11
+shared-slice-copy-out-t11 : tie.Need-bounds-points-i-2
 shared-slice-copy-out-t11 c = search rules
 
-mul-t12 : tie.Need-overflow-mul-t12
+mul-t12 : tie.Need-overflow_mul-result-3
 mul-t12 c = search rules
 
-add-t13 : tie.Need-overflow-add-t13
+add-t13 : tie.Need-overflow_add-result-2
 add-t13 c = search rules
 
-mul-t14 : tie.Need-overflow-mul-t14
+mul-t14 : tie.Need-offset_bounds-points-i-3
 mul-t14 c = search rules
 
-shared-slice-copy-out-t16 : tie.Need-shared-slice-copy-out-t16
+shared-slice-copy-out-t16 : tie.Need-bounds-points-i-3
 shared-slice-copy-out-t16 c = search rules
 
-mul-t17 : tie.Need-overflow-mul-t17
+mul-t17 : tie.Need-overflow_mul-result-4
 mul-t17 c = search rules
 
-add-t18 : tie.Need-overflow-add-t18
+add-t18 : tie.Need-overflow_add-result-3
 add-t18 c = search rules
 
-mul-t19 : tie.Need-overflow-mul-t19
+mul-t19 : tie.Need-offset_bounds-points-i-4
 mul-t19 c = search rules
 
-shared-slice-copy-out-t21 : tie.Need-shared-slice-copy-out-t21
+shared-slice-copy-out-t21 : tie.Need-bounds-points-i-4
 shared-slice-copy-out-t21 c = search rules
 
 returns : tie.Need-returns
 unfolding point_ranked
 returns c =
-    let s = c.before.before.before.before in
+    let s = c in
     let l = s.args.points.now in
     let n = 4 * s.args.i in
     let ha : SFits w32 (get_or l n (pos 0)) = search rules in
@@ -68,8 +68,8 @@ returns c =
     let hd : SFits w32 (get_or l (n + 3) (pos 0)) = search rules in
     rw (to_z-of_z ha, to_z-of_z hb, to_z-of_z hc, to_z-of_z hd) refl
 
-pub point-at-spec : {M : Type 1} → statement M
-point-at-spec =
+pub point_at_spec : {M : Type 1} → statement M
+point_at_spec =
     tie.close
     (tie.spec
     mul-t3

@@ -7,18 +7,18 @@ use Rattle.ring.specs.declared.Sign.TheVariants.{Minus, Plus}
 use Rattle.ring_signs.proofs.sign_of_part.Statement.{statement}
 use Rattle.ring_signs.proofs.sign_of_part.Tie as tie
 
-is-nonneg-requires : tie.Need-is-nonneg-requires
+is-nonneg-requires : tie.Need-is_nonneg-requires
 is-nonneg-requires c κs = search rules
 
 -- what the call answers
-sign : (c : tie.After-is-nonneg) → c.is-nonneg.result ≡ non_neg c.before.args.z
-sign c = c.is-nonneg.ensures ∙ ap non_neg (to_z-of_z c.before.ranges.z)
+sign : (c : tie.After-is_nonneg) → c.is_nonneg.result ≡ non_neg c.args.z
+sign c = c.is_nonneg.ensures ∙ ap non_neg (to_z-of_z c.ranges.z)
 
-returns : tie.Need-returns
-returns c = sym (ap (λ b. cond b Plus Minus) (sym (sign c.before) ∙ c.if1.true))
+returns : tie.Need-returns-then-is_nonneg
+returns c = sym (ap (λ b. cond b Plus Minus) (sym (sign c.before) ∙ c.if-is_nonneg.true))
 
-returns-2 : tie.Need-returns-2
-returns-2 c = sym (ap (λ b. cond b Plus Minus) (sym (sign c.before) ∙ c.if1.false))
+returns-2 : tie.Need-returns-else-is_nonneg
+returns-2 c = sym (ap (λ b. cond b Plus Minus) (sym (sign c.before) ∙ c.if-is_nonneg.false))
 
-pub sign-of-part-spec : {M : Type 1} → statement M
-sign-of-part-spec = tie.close (tie.spec is-nonneg-requires returns returns-2)
+pub sign_of_part_spec : {M : Type 1} → statement M
+sign_of_part_spec = tie.close (tie.spec is-nonneg-requires returns returns-2)

@@ -17,7 +17,7 @@ record Known (s : tie.Start) : Type 0 where
 known : (s : tie.Start) → Known s
 known s = record { p = size→fits (omega (arith, s.requires.p)); q = size→fits (omega (arith, s.requires.q)); less = size→fits (omega (arith, s.requires.q, size-- (pos 0) s.args.x.q)) }
 
-sub-t2 : tie.Need-overflow-sub-t2
+sub-t2 : tie.Need-overflow_sub-result
 sub-t2 c = let k = known c.before.before in simp (to_z-of_z k.q) k.less
 
 returns : tie.Need-returns
@@ -26,5 +26,5 @@ returns c =
     let k = known s in
     simp (to_z-of_z k.p, to_z-of_z k.q, to_z-of_z k.less) (ext refl (+ℤ_idl (neg_ℤ s.args.x.q)) ∙ sym (conj_parts s.args.x))
 
-pub conjugate-spec : {M : Type 1} → statement M
-conjugate-spec = tie.close (tie.spec sub-t2 returns)
+pub conjugate_spec : {M : Type 1} → statement M
+conjugate_spec = tie.close (tie.spec sub-t2 returns)

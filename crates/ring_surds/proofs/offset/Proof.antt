@@ -17,16 +17,16 @@ gap-requires-2 c κs = search rules
 
 returns : tie.Need-returns
 returns c =
-    let g = c.before.before.before in
-    let s = g.before.before.before in
+    let g = c in
+    let s = g in
     let a = s.args in
     let xp : SFits w64 a.x.p = search rules in
     let xq : SFits w64 a.x.q = search rules in
     let yp : SFits w64 a.y.p = search rules in
     let yq : SFits w64 a.y.q = search rules in
     let f = simp (to_z-of_z s.ranges.m, to_z-of_z s.ranges.n, to_z-of_z xp, to_z-of_z yp) at g.gap.ensures in
-    let h = simp (to_z-of_z s.ranges.m, to_z-of_z s.ranges.n, to_z-of_z xq, to_z-of_z yq) at c.gap2.ensures in
-    ext (back w64 g.gap.type-inv ∙ f) (back w64 c.gap2.type-inv ∙ h) ∙ sym (offset-parts a.m a.x a.n a.y)
+    let h = simp (to_z-of_z s.ranges.m, to_z-of_z s.ranges.n, to_z-of_z xq, to_z-of_z yq) at c.gap-2.ensures in
+    ext (back w64 g.gap.type_inv ∙ f) (back w64 c.gap-2.type_inv ∙ h) ∙ sym (offset-parts a.m a.x a.n a.y)
 
-pub offset-spec : {M : Type 1} → statement M
-offset-spec = tie.close (tie.spec gap-requires gap-requires-2 returns)
+pub offset_spec : {M : Type 1} → statement M
+offset_spec = tie.close (tie.spec gap-requires gap-requires-2 returns)

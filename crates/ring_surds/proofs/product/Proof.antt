@@ -22,7 +22,7 @@ record Known (x y : RootTwo) : Type 0 where
 known : (c : tie.Start) → Known c.args.x c.args.y
 known c = record { xp = search rules; xq = search rules; yp = search rules; yq = search rules; roots = size→fits (omega (arith, c.requires.roots)) }
 
-mul-dot : tie.Need-overflow-mul-dot
+mul-dot : tie.Need-overflow_mul-x
 mul-dot c = let k = known c.before.before.before.before in simp (to_z-of_z k.xq, to_z-of_z k.yq) k.roots
 
 dot-requires : tie.Need-dot-requires
@@ -39,12 +39,12 @@ dot-requires-2 c κs =
 
 returns : tie.Need-returns
 returns c =
-    let d = c.before.before.before.before.before in
+    let d = c in
     let s = d.before.before.before.before.before.before.before in
-    let k = known s in
+    let k = known s.before.before.before.before.before in
     let e = simp (to_z-of_z k.xp, to_z-of_z k.xq, to_z-of_z k.yp, to_z-of_z k.yq, to_z-of_z k.roots) at d.dot.ensures in
-    let f = simp (to_z-of_z k.xp, to_z-of_z k.xq, to_z-of_z k.yp, to_z-of_z k.yq) at c.dot2.ensures in
-    ext (back w64 d.dot.type-inv ∙ e) (back w64 c.dot2.type-inv ∙ f) ∙ sym (product-parts s.args.x s.args.y)
+    let f = simp (to_z-of_z k.xp, to_z-of_z k.xq, to_z-of_z k.yp, to_z-of_z k.yq) at c.dot-2.ensures in
+    ext (back w64 d.dot.type_inv ∙ e) (back w64 c.dot-2.type_inv ∙ f) ∙ sym (product-parts s.args.x s.args.y)
 
-pub product-spec : {M : Type 1} → statement M
-product-spec = tie.close (tie.spec mul-dot dot-requires dot-requires-2 returns)
+pub product_spec : {M : Type 1} → statement M
+product_spec = tie.close (tie.spec mul-dot dot-requires dot-requires-2 returns)

@@ -5,35 +5,35 @@ use Rattle.text_hex.proofs.Hexadecimal.{digit-decimal, digit-upper, digit-lower,
 use Rattle.text_hex.proofs.digit.Statement.{statement}
 use Rattle.text_hex.proofs.digit.Tie as tie
 
-sub-result : tie.Need-overflow-sub-result
+sub-result : tie.Need-overflow_sub-result-in-65-to-70
 sub-result c = search rules
 
-sub-result-2 : tie.Need-overflow-sub-result-2
+sub-result-2 : tie.Need-overflow_sub-result-in-97-to-102
 sub-result-2 c = search rules
 
-returns : tie.Need-returns
-returns c = digit-decimal c.before.before.args.b (omega arith) (omega arith)
+returns : tie.Need-returns-in-48-to-57
+returns c = digit-decimal c.args.b (omega arith) (omega arith)
 
-returns-2 : tie.Need-returns-2
-returns-2 c = digit-upper c.before.before.before.before.args.b (omega arith) (omega arith)
+returns-2 : tie.Need-returns-in-65-to-70
+returns-2 c = digit-upper c.args.b (omega arith) (omega arith)
 
-returns-3 : tie.Need-returns-3
-returns-3 c = digit-lower c.before.before.before.before.before.before.args.b (omega arith) (omega arith)
+returns-3 : tie.Need-returns-in-97-to-102
+returns-3 c = digit-lower c.args.b (omega arith) (omega arith)
 
-returns-4 : tie.Need-returns-4
-returns-4 c = digit-none-1 c.before.args.b (omega arith)
+returns-4 : tie.Need-returns-in_default
+returns-4 c = digit-none-1 c.args.b (omega arith)
 
-returns-5 : tie.Need-returns-5
-returns-5 c = digit-none-2 c.before.before.before.args.b (omega arith) (omega arith)
+returns-5 : tie.Need-returns-in_default-2
+returns-5 c = digit-none-2 c.args.b (omega arith) (omega arith)
 
-returns-6 : tie.Need-returns-6
-returns-6 c = digit-none-3 c.before.before.before.before.before.args.b (omega arith) (omega arith)
+returns-6 : tie.Need-returns-in_default-3
+returns-6 c = digit-none-3 c.args.b (omega arith) (omega arith)
 
-returns-7 : tie.Need-returns-7
-returns-7 c = digit-none-4 c.before.before.before.before.before.before.args.b (omega arith)
+returns-7 : tie.Need-returns-in_default-4
+returns-7 c = digit-none-4 c.args.b (omega arith)
 
-pub digit-spec : {M : Type 1} → statement M
-digit-spec =
+pub digit_spec : {M : Type 1} → statement M
+digit_spec =
     tie.close
     (tie.spec
     sub-result

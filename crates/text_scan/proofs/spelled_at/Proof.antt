@@ -32,7 +32,7 @@ no_minus c =
     let s = c.args.s.now in
     let at = c.args.at in
     ne_eqb (get_or s at 0) 45
-    (⊎_elim (λ w. w.2.left) (λ w e. omega (arith, e, get_or-eq_default s 0 w.left)) c.if-at-s.branch)
+    (⊎_elim (λ w. w.if-s-at-eq45.false) (λ w e. omega (arith, e, get_or-eq_default s 0 w.if-at-s.false)) c.if-at-s.branch-raw)
 
 returns-2 : tie.Need-returns
 unfolding number_at

@@ -54,7 +54,7 @@ returns-2 : tie.Need-returns-then-not-minus
 unfolding fits fitted
 returns-2 c =
     let s = c in
-    let m : s.args.minus ≡ false = c.if-not-minus.true in
+    let m : s.args.minus ≡ false = not-true _ (ap not c.if-not-minus.true) in
     rw (m, le-ltb _ _ (at_least s.args.n c.if-n-lt9223372036854775808.false)) refl
 
 returns-3 : tie.Need-returns-then-n-gt9223372036854775808

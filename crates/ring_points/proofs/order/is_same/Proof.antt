@@ -37,15 +37,15 @@ fits-w c =
     let e : SFits w32 v.d = search rules in
     record { a = a; b = b; c = d; d = e }
 
-abbrev start : tie.After-word2 → tie.Start
+abbrev start : tie.After-word-2 → tie.Start
 start c = c.before.before.before.before.before.before
 
 -- the last words
-low-v : (c : tie.After-word2) → let s = start c in c.before.before.before.word.result ≡ word s.args.v.c s.args.v.d
-low-v c = let f = fits-v (start c) in c.before.before.before.word.ensures ∙ ap₂ word (to_z-of_z f.c) (to_z-of_z f.d)
+low-v : (c : tie.After-word-2) → let s = start c in c.word.result ≡ word s.args.v.c s.args.v.d
+low-v c = let f = fits-v (start c) in c.word.ensures ∙ ap₂ word (to_z-of_z f.c) (to_z-of_z f.d)
 
-low-w : (c : tie.After-word2) → let s = start c in c.word2.result ≡ word s.args.w.c s.args.w.d
-low-w c = let f = fits-w (start c) in c.word2.ensures ∙ ap₂ word (to_z-of_z f.c) (to_z-of_z f.d)
+low-w : (c : tie.After-word-2) → let s = start c in c.word-2.result ≡ word s.args.w.c s.args.w.d
+low-w c = let f = fits-w (start c) in c.word-2.ensures ∙ ap₂ word (to_z-of_z f.c) (to_z-of_z f.d)
 
 -- points of one rank have the same words
 module _ (s : tie.Start) (e : rank_of s.args.v ≡ rank_of s.args.w) where
@@ -67,13 +67,13 @@ word-requires c κs = search rules
 word-requires-2 : tie.Need-word-requires-2
 word-requires-2 c κs = search rules
 
-returns : tie.Need-returns
+returns : tie.Need-returns-then-word
 returns c =
     let m = c.before in
     let s = start m in
     let f = fits-v s in
     let g = fits-w s in
-    let h = c.if1.true in
+    let h = c.if-word.true in
     sym (ne_eqb _ _ (λ e. h (low-v m ∙ same_low s e ∙ sym (low-w m))))
 
 word-requires-3 : tie.Need-word-requires-3
@@ -82,20 +82,20 @@ word-requires-3 c κs = search rules
 word-requires-4 : tie.Need-word-requires-4
 word-requires-4 c κs = search rules
 
-returns-2 : tie.Need-returns-2
+returns-2 : tie.Need-returns
 returns-2 c =
-    let m = c.before.before.before in
-    let e = m.before.before.before in
+    let m = c in
+    let e = m in
     let p = e.before in
     let s = start p in
     let f = fits-v s in
     let g = fits-w s in
-    let x = m.word3.ensures ∙ ap₂ word (to_z-of_z f.a) (to_z-of_z f.b) in
-    let y = c.word4.ensures ∙ ap₂ word (to_z-of_z g.a) (to_z-of_z g.b) in
-    let low = sym (low-v p) ∙ e.if1.false ∙ low-w p in
+    let x = m.word-3.ensures ∙ ap₂ word (to_z-of_z f.a) (to_z-of_z f.b) in
+    let y = c.word-4.ensures ∙ ap₂ word (to_z-of_z g.a) (to_z-of_z g.b) in
+    let low = sym (low-v p) ∙ e.if-word.false ∙ low-w p in
     eqb_same _ _ _ _ (λ h. let high = sym x ∙ h ∙ y in omega (arith, rank-words s.args.v, rank-words s.args.w)) (λ h. x ∙ same-high s h ∙ sym y)
 
-pub is-same-spec : {M : Type 1} → statement M
-is-same-spec =
+pub is_same_spec : {M : Type 1} → statement M
+is_same_spec =
     tie.close
     (tie.spec word-requires word-requires-2 returns word-requires-3 word-requires-4 returns-2)

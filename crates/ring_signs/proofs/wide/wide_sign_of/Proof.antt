@@ -25,100 +25,100 @@ right-some : (m n : ℕ) → 0 < n → 0 < m + n
 right-some m n h = omega arith
 
 -- the numbers, and what the first three calls answer
-module _ (c : tie.After-is-nonneg) where
+module _ (c : tie.After-is_nonneg) where
   abbrev p : ℤ
-  p = meaning c.before.before.before.args.p
+  p = meaning c.args.p
 
   abbrev q : ℤ
-  q = meaning c.before.before.before.args.q
+  q = meaning c.args.q
 
-  p-size : size_of c.before.before.size.result ≡ nat_abs p
-  p-size = c.before.before.size.ensures
+  p-size : size_of c.size-a.result ≡ nat_abs p
+  p-size = c.size-a.ensures
 
-  q-size : size_of c.before.size2.result ≡ nat_abs q
-  q-size = c.before.size2.ensures
+  q-size : size_of c.size-b.result ≡ nat_abs q
+  q-size = c.size-b.ensures
 
-  p-sign : c.is-nonneg.result ≡ non_neg p
-  p-sign = c.is-nonneg.ensures
+  p-sign : c.is_nonneg.result ≡ non_neg p
+  p-sign = c.is_nonneg.ensures
 
-size-requires : tie.Need-size-requires
+size-requires : tie.Need-size-a-requires
 size-requires c κs = search rules
 
-size-requires-2 : tie.Need-size-requires-2
+size-requires-2 : tie.Need-size-b-requires
 size-requires-2 c κs = search rules
 
-is-nonneg-requires : tie.Need-is-nonneg-requires
+is-nonneg-requires : tie.Need-is_nonneg-requires
 is-nonneg-requires c κs = search rules
 
-is-nonneg-requires-2 : tie.Need-is-nonneg-requires-2
+is-nonneg-requires-2 : tie.Need-is_nonneg-requires-then-is_nonneg
 is-nonneg-requires-2 c κs = search rules
 
-is-zero-requires : tie.Need-is-zero-requires
+is-zero-requires : tie.Need-is_zero-requires
 is-zero-requires c κs = search rules
 
-is-zero-requires-2 : tie.Need-is-zero-requires-2
+is-zero-requires-2 : tie.Need-is_zero-requires-then-is_zero
 is-zero-requires-2 c κs = search rules
 
-returns : tie.Need-returns
+returns : tie.Need-returns-then-is_zero-2
 returns c =
-    let z = c.before in
-    let y = z.before.before in
-    let m = y.before in
+    let z = c in
+    let y = z in
+    let m = y in
     let n = m.before.before.before in
-    signs (sym (sign_zero (p n) (q n) (sym (p-sign n) ∙ m.before.before.if1.true) (sym m.before.is-nonneg2.ensures ∙ m.if2.true)
-    (none _ _ (p-size n) (sym y.is_zero.ensures ∙ z.before.if3.true)) (none _ _ (q-size n) (sym z.is-zero2.ensures ∙ c.if4.true))))
+    signs (sym (sign_zero (p n.before.before.before.before) (q n.before.before.before.before) (sym (p-sign n.before.before.before.before) ∙ m.if-is_nonneg.true) (sym m.is_nonneg-then-is_nonneg.ensures ∙ m.if-is_nonneg-2.true)
+    (none _ _ (p-size n.before.before.before.before) (sym y.is_zero.ensures ∙ z.if-is_zero.true)) (none _ _ (q-size n.before.before.before.before) (sym z.is_zero-then-is_zero.ensures ∙ c.if-is_zero-2.true))))
 
-wide-gap-sign-requires : tie.Need-wide-gap-sign-requires
+wide-gap-sign-requires : tie.Need-wide_gap_sign-requires
 wide-gap-sign-requires c κs = search rules
 
-is-nonneg-requires-3 : tie.Need-is-nonneg-requires-3
+is-nonneg-requires-3 : tie.Need-is_nonneg-requires-else-is_nonneg
 is-nonneg-requires-3 c κs = search rules
 
-wide-gap-sign-requires-2 : tie.Need-wide-gap-sign-requires-2
+wide-gap-sign-requires-2 : tie.Need-wide_gap_sign-requires-then-is_nonneg-3
 wide-gap-sign-requires-2 c κs = search rules
 
 turned-requires : tie.Need-turned-requires
 turned-requires c κs = search rules
 
-returns-2 : tie.Need-returns-2
+returns-2 : tie.Need-returns-else-is_zero-2
 returns-2 c =
-    let z = c.before in
-    let y = z.before.before in
-    let m = y.before in
+    let z = c in
+    let y = z in
+    let m = y in
     let n = m.before.before.before in
-    signs (sym (sign-plus (p n) (q n) (sym (p-sign n) ∙ m.before.before.if1.true) (sym m.before.is-nonneg2.ensures ∙ m.if2.true)
-    (right-some _ _ (some _ _ (q-size n) (sym z.is-zero2.ensures ∙ c.if4.false)))))
+    signs (sym (sign-plus (p n.before.before.before.before) (q n.before.before.before.before) (sym (p-sign n.before.before.before.before) ∙ m.if-is_nonneg.true) (sym m.is_nonneg-then-is_nonneg.ensures ∙ m.if-is_nonneg-2.true)
+    (right-some _ _ (some _ _ (q-size n.before.before.before.before) (sym z.is_zero-then-is_zero.ensures ∙ c.if-is_zero-2.false)))))
 
-returns-3 : tie.Need-returns-3
+returns-3 : tie.Need-returns-else-is_zero
 returns-3 c =
-    let y = c.before in
-    let m = y.before in
+    let y = c in
+    let m = y in
     let n = m.before.before.before in
-    signs (sym (sign-plus (p n) (q n) (sym (p-sign n) ∙ m.before.before.if1.true) (sym m.before.is-nonneg2.ensures ∙ m.if2.true)
-    (left-some _ _ (some _ _ (p-size n) (sym y.is_zero.ensures ∙ c.if3.false)))))
+    signs (sym (sign-plus (p n.before.before) (q n.before.before) (sym (p-sign n.before.before) ∙ m.if-is_nonneg.true) (sym m.is_nonneg-then-is_nonneg.ensures ∙ m.if-is_nonneg-2.true)
+    (left-some _ _ (some _ _ (p-size n.before.before) (sym y.is_zero.ensures ∙ c.if-is_zero.false)))))
 
-returns-4 : tie.Need-returns-4
+returns-4 : tie.Need-returns-else-is_nonneg-2
 returns-4 c =
-    let m = c.before.before in
+    let m = c in
     let n = m.before.before in
-    signs (c.wide-gap-sign.ensures ∙ ap₂ gap_sign (p-size n) (q-size n)
-    ∙ sym (sign-gap (p n) (q n) (sym (p-sign n) ∙ m.before.if1.true) (sym m.is-nonneg2.ensures ∙ c.before.if2.false)))
+    signs (c.wide_gap_sign.ensures ∙ ap₂ gap_sign (p-size n.before.before) (q-size n.before.before)
+    ∙ sym (sign-gap (p n.before.before) (q n.before.before) (sym (p-sign n.before.before) ∙ m.if-is_nonneg.true) (sym m.is_nonneg-then-is_nonneg.ensures ∙ c.if-is_nonneg-2.false)))
 
-returns-5 : tie.Need-returns-5
+returns-5 : tie.Need-returns-then-is_nonneg-3
 returns-5 c =
-    let m = c.before.before.before in
+    let m = c in
     let n = m.before.before in
-    signs (c.turned.ensures ∙ ap opposite (c.before.wide-gap-sign2.ensures ∙ ap₂ gap_sign (p-size n) (q-size n))
-    ∙ sym (sign-turned (p n) (q n) (sym (p-sign n) ∙ m.before.if1.false) (sym m.is-nonneg3.ensures ∙ c.before.before.if5.true)))
+    signs (c.turned.ensures ∙ ap opposite (c.wide_gap_sign-then-is_nonneg-3.ensures ∙ ap₂ gap_sign (p-size n.before.before.before) (q-size n.before.before.before))
+    ∙ sym (sign-turned (p n.before.before.before) (q n.before.before.before) (sym (p-sign n.before.before.before) ∙ m.if-is_nonneg.false) (sym m.is_nonneg-else-is_nonneg.ensures ∙ c.if-is_nonneg-3.true)))
 
-returns-6 : tie.Need-returns-6
+returns-6 : tie.Need-returns-else-is_nonneg-3
 returns-6 c =
-    let m = c.before in
+    let m = c in
     let n = m.before.before in
-    signs (sym (sign-minus (p n) (q n) (sym (p-sign n) ∙ m.before.if1.false) (sym m.is-nonneg3.ensures ∙ c.if5.false)))
+    signs (sym (sign-minus (p n.before) (q n.before) (sym (p-sign n.before) ∙ m.if-is_nonneg.false) (sym m.is_nonneg-else-is_nonneg.ensures ∙ c.if-is_nonneg-3.false)))
 
-pub wide-sign-of-spec : {M : Type 1} → statement M
-wide-sign-of-spec =
+pub wide_sign_of_spec : {M : Type 1} → statement M
+wide_sign_of_spec =
     tie.close
     (tie.spec
     size-requires

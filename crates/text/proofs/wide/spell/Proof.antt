@@ -54,7 +54,7 @@ loop-again c =
     let l = h in
     let inv = l.loop-t.invariant in
     let n = size_of l.args.n in
-    let rest = size_of l.loop-t.rest-1 in
+    let rest = size_of l.loop-t.rest in
     let tens : 10 ≤ rest = leb-true 10 rest (sym h.has_tens.ensures ∙ t.loop-t-test.true) in
     let f = fewer l.loop-t.i rest tens inv.3 in (
       omega arith,
@@ -68,16 +68,16 @@ sub-i-2 : tie.Need-overflow_sub-i-2 invariant-loop decreases-loop
 sub-i-2 c = search rules
 
 -- what is left has one digit
-one : (c : tie.After-struct_known-2-1 invariant-loop decreases-loop) → size_of c.loop-t.rest-1 < 10
+one : (c : tie.After-struct_known-2-1 invariant-loop decreases-loop) → size_of c.loop-t.rest < 10
 one c =
     let h = c in
-    leb-false 10 (size_of h.loop-t.rest-1) (sym h.has_tens.ensures ∙ c.loop-t-test.false)
+    leb-false 10 (size_of h.loop-t.rest) (sym h.has_tens.ensures ∙ c.loop-t-test.false)
 
 cast-digits : tie.Need-overflow_cast-digits invariant-loop decreases-loop
-cast-digits c = record { fits = (digit-fits c.loop-t.rest-1 (one c)).0 }
+cast-digits c = record { fits = (digit-fits c.loop-t.rest (one c)).0 }
 
 add-digits-2 : tie.Need-overflow_add-digits-2 invariant-loop decreases-loop
-add-digits-2 c = record { fits = (digit-fits c.loop-t.rest-1 (one c)).1 }
+add-digits-2 c = record { fits = (digit-fits c.loop-t.rest (one c)).1 }
 
 slice-write-digits-2 : tie.Need-bounds-digits-i-2 invariant-loop decreases-loop
 slice-write-digits-2 c = search rules
@@ -90,7 +90,7 @@ returns c =
     let l = c in
     let inv = l.loop-t.invariant in
     let n = size_of l.args.n in
-    (omega arith, rw (value-one l.loop-t.rest-1 (one c)) (spelt n (size_of l.loop-t.rest-1) l.loop-t.digits l.loop-t.i inv.0 (omega arith) inv.4 (one c)))
+    (omega arith, rw (value-one l.loop-t.rest (one c)) (spelt n (size_of l.loop-t.rest) l.loop-t.digits l.loop-t.i inv.0 (omega arith) inv.4 (one c)))
 
 pub spell_spec : {M : Type 1} → statement M
 spell_spec =

@@ -8,7 +8,7 @@ use Rattle.text.proofs.write.put_bytes.Tie as tie
 returns : tie.Need-returns-then-out-at
 returns c =
     let t = c in
-    put-not t.args.out-1.now t.args.at t.args.text.now (omega arith)
+    put-not t.args.out.now t.args.at t.args.text.now (omega arith)
 
 sub-if2 : tie.Need-overflow_sub-out
 sub-if2 c = search rules
@@ -16,7 +16,7 @@ sub-if2 c = search rules
 returns-2 : tie.Need-returns-then-out-at-2
 returns-2 c =
     let t = c in
-    put-not t.args.out-1.now t.args.at t.args.text.now (omega arith)
+    put-not t.args.out.now t.args.at t.args.text.now (omega arith)
 
 copy-requires : tie.Need-copy-requires
 copy-requires c κs = search rules
@@ -30,7 +30,7 @@ same_length c = search rules
 returns-3 : tie.Need-returns
 returns-3 c =
     let t = c in
-    rw c.copy.ensures (put-fits t.args.out-1.now t.args.at t.args.text.now (omega arith))
+    rw c.copy.ensures (put-fits t.args.out.now t.args.at t.args.text.now (omega arith))
 
 pub put_bytes_spec : {M : Type 1} → statement M
 put_bytes_spec =

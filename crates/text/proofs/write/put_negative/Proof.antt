@@ -11,7 +11,7 @@ use Rattle.text.proofs.write.put_negative.Tie as tie
 returns : tie.Need-returns-then-out-at
 returns c =
     let t = c in
-    put-not t.args.out-1.now t.args.at (45 ∷ decimal t.args.n) (omega arith)
+    put-not t.args.out.now t.args.at (45 ∷ decimal t.args.n) (omega arith)
 
 add-put-unsigned : tie.Need-overflow_add-at
 add-put-unsigned c = search rules
@@ -28,7 +28,7 @@ same_length c = search rules
 returns-2 : tie.Need-returns-then-end-at
 returns-2 c =
     let t = c in
-    put-neither t.args.out-1.now t.args.at 45 (decimal t.args.n) c.put_unsigned-end.ensures
+    put-neither t.args.out.now t.args.at 45 (decimal t.args.n) c.put_unsigned-end.ensures
     (decimal-some t.args.n) c.if-end-at.true
 
 slice-write-out : tie.Need-bounds-out-at
@@ -40,7 +40,7 @@ same-length-2 c = search rules
 returns-3 : tie.Need-returns
 returns-3 c =
     let t = c in
-    put-before t.args.out-1.now t.args.at 45 (decimal t.args.n) c.put_unsigned-end.ensures
+    put-before t.args.out.now t.args.at 45 (decimal t.args.n) c.put_unsigned-end.ensures
     c.if-end-at.false
 
 pub put_negative_spec : {M : Type 1} → statement M
