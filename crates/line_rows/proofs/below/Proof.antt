@@ -20,16 +20,16 @@ m-fits : (s : tie.Start) → SFits w64 s.args.s.m
 m-fits s = size→fits (omega (arith, s.requires.0.scale))
 
 offset-requires : tie.Need-offset-requires
-offset-requires c κs = rw (to_z-of_z (m-fits c.before)) (room (pos 1) _ _ _ 1 (2 ^ 60) (2 ^ 20) (2 ^ 41) (omega arith) c.before.requires.0.hi c.before.requires.0.scale c.before.requires.1 (omega arith))
+offset-requires c κs = rw (to_z-of_z (m-fits c.before.before)) (room (pos 1) _ _ _ 1 (2 ^ 60) (2 ^ 20) (2 ^ 41) (omega arith) c.requires.0.hi c.requires.0.scale c.requires.1 (omega arith))
 
-is-nonneg-requires : tie.Need-is-nonneg-requires
+is-nonneg-requires : tie.Need-is_nonneg-requires
 is-nonneg-requires c κs = search rules
 
 returns : tie.Need-returns
-returns c = let d = c.before in let s = d.before.before in let a = s.args in c.is-nonneg.ensures ∙ ap nonneg (simp (to_z-of_z (m-fits s)) at d.offset.ensures ∙ once (num a.s.m ⊠ a.z) a.s.hi)
+returns c = let d = c in let s = d.before.before in let a = s.args in c.is_nonneg.ensures ∙ ap nonneg (simp (to_z-of_z (m-fits s.before.before)) at d.offset.ensures ∙ once (num a.s.m ⊠ a.z) a.s.hi)
   where
     once : (x h : RootTwo) → num (pos 1) ⊠ h ⊟ x ≡ h ⊟ x
     once x h = by_ring ring√ (x ∷ h ∷ []) (search poly depth 30) refl
 
-pub below-spec : {M : Type 1} → statement M
-below-spec = tie.close (tie.spec offset-requires is-nonneg-requires returns)
+pub below_spec : {M : Type 1} → statement M
+below_spec = tie.close (tie.spec offset-requires is-nonneg-requires returns)

@@ -10,11 +10,11 @@ above-requires c κs = search rules
 below-requires : tie.Need-below-requires
 below-requires c κs = search rules
 
-returns : tie.Need-returns
-returns c = c.below.ensures ∙ sym (both-when (sym c.before.before.above.ensures ∙ c.before.if1.true))
+returns : tie.Need-returns-then-above
+returns c = c.below.ensures ∙ sym (both-when (sym c.above.ensures ∙ c.if-above.true))
 
-returns-2 : tie.Need-returns-2
-returns-2 c = sym (both-unless _ _ (sym c.before.above.ensures ∙ c.if1.false))
+returns-2 : tie.Need-returns
+returns-2 c = sym (both-unless _ _ (sym c.above.ensures ∙ c.if-above.false))
 
 pub bounded_spec : {M : Type 1} → statement M
 bounded_spec = tie.close (tie.spec above-requires below-requires returns returns-2)

@@ -14,9 +14,9 @@ coordinate-requires-2 c κs = search rules
 
 returns : tie.Need-returns
 returns c =
-    let x = c.before.coordinate in
-    let y = c.coordinate2 in
-    rw (back w64 x.type-inv, back w64 y.type-inv) (ap₂ at x.ensures.0 y.ensures.0, record { p = x.ensures.1; q = y.ensures.1 })
+    let x = c.coordinate in
+    let y = c.coordinate-2 in
+    rw (back w64 x.type_inv, back w64 y.type_inv) (ap₂ at x.ensures.0 y.ensures.0, record { p = x.ensures.1; q = y.ensures.1 })
 
 pub pair_spec : {M : Type 1} → statement M
 pair_spec = tie.close (tie.spec coordinate-requires coordinate-requires-2 returns)

@@ -15,17 +15,17 @@ fits c =
     let e = unit_size c.args.k c.args.x c.requires.0 in
     (sfits_widen tt c.ranges.x, size→fits (omega arith), size→fits (omega arith))
 
-cast-result : tie.Need-overflow-cast-result
+cast-result : tie.Need-overflow_cast-result
 cast-result c = let h = fits c in search rules
 
-mul-result : tie.Need-overflow-mul-result
+mul-result : tie.Need-overflow_mul-result
 mul-result c = let h = fits c in search rules
 
-cast-result-2 : tie.Need-overflow-cast-result-2
+cast-result-2 : tie.Need-overflow_cast-result-2
 cast-result-2 c = let h = fits c in rw (to_z-of_z c.ranges.k, to_z-of_z c.ranges.x, to_z-of_z h.0, to_z-of_z h.1) h.2
 
 returns : tie.Need-returns
 returns c = let h = fits c in rw (to_z-of_z c.ranges.k, to_z-of_z c.ranges.x, to_z-of_z h.0, to_z-of_z h.1, to_z-of_z h.2) refl
 
-pub scaled-spec : {M : Type 1} → statement M
-scaled-spec = tie.close (tie.spec cast-result mul-result cast-result-2 returns)
+pub scaled_spec : {M : Type 1} → statement M
+scaled_spec = tie.close (tie.spec cast-result mul-result cast-result-2 returns)

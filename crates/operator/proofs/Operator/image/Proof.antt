@@ -24,31 +24,31 @@ widen : {z : ℤ} → SFits w32 z → SFits w64 (to_z w32 (of_z w32 z))
 widen h = rw (to_z-of_z h) (sfits_widen tt h)
 
 widened : {z : ℤ} → SFits w32 z → to_z w64 (of_z w64 (to_z w32 (of_z w32 z))) ≡ z
-widened h = rw (to_z-of_z h) (to_z-of_z (sfits_widen tt h))
+widened h = rw (to_z-of_z h) (to_z-of_z {w = w64} (sfits_widen tt h))
 
 near : {z : ℤ} → SFits w32 z → nat_abs (to_z w64 (of_z w64 (to_z w32 (of_z w32 z)))) ≤ 2 ^ 40
 near h = rw (widened h) (omega (arith, fits→size h))
 
-cast-t3 : tie.Need-overflow-cast-t3
+cast-t3 : tie.Need-overflow_cast-v
 cast-t3 c = widen (fits c.before.before).0
 
-cast-t4 : tie.Need-overflow-cast-t4
+cast-t4 : tie.Need-overflow_cast-v-2
 cast-t4 c = widen (fits c.before.before.before.before).1
 
-cast-t5 : tie.Need-overflow-cast-t5
+cast-t5 : tie.Need-overflow_cast-v-3
 cast-t5 c = widen (fits c.before.before.before.before.before.before).2
 
-cast-t6 : tie.Need-overflow-cast-t6
+cast-t6 : tie.Need-overflow_cast-v-4
 cast-t6 c = widen (fits c.before.before.before.before.before.before.before.before).3
 
-image-wide-requires : tie.Need-image-wide-requires
+image-wide-requires : tie.Need-image_wide-requires
 image-wide-requires c κs = let f = fits c.before.before.before.before.before.before.before.before in record { a = near f.0; b = near f.1; c = near f.2; d = near f.3 }
 
 returns : tie.Need-returns
 returns c =
     let s = c.before.before.before.before.before.before.before.before.before in
     let f = fits s in
-    c.image-wide.ensures ∙ ap (image_of s.args.self) (ext (widened f.0) (widened f.1) (widened f.2) (widened f.3))
+    c.image_wide.ensures ∙ ap (image_of s.args.self) (ext (widened f.0) (widened f.1) (widened f.2) (widened f.3))
 
-pub image-spec : {M : Type 1} → statement M
-image-spec = tie.close (tie.spec cast-t3 cast-t4 cast-t5 cast-t6 image-wide-requires returns)
+pub image_spec : {M : Type 1} → statement M
+image_spec = tie.close (tie.spec cast-t3 cast-t4 cast-t5 cast-t6 image-wide-requires returns)

@@ -19,9 +19,9 @@ fits c = search rules
 returns : tie.Need-returns
 unfolding in_range
 returns c =
-    let d = c.before.before.before.before.before in
-    let r = bits16 (fits d.before.before.before.before.before) in
-    ap₂ ◌&&◌ (d.entries.ensures ∙ (λ i. entries (r.a i) (r.b i) (r.c i) (r.d i))) (c.entries2.ensures ∙ (λ i. entries (r.ai i) (r.bi i) (r.ci i) (r.di i)))
+    let d = c in
+    let r = bits16 (fits d.before.before.before.before.before.before.before.before.before.before) in
+    ap₂ ◌&&◌ (d.entries.ensures ∙ (λ i. entries (r.a i) (r.b i) (r.c i) (r.d i))) (c.entries-2.ensures ∙ (λ i. entries (r.ai i) (r.bi i) (r.ci i) (r.di i)))
 
-pub in-range-spec : {M : Type 1} → statement M
-in-range-spec = tie.close (tie.spec entries-requires entries-requires-2 returns)
+pub in_range_spec : {M : Type 1} → statement M
+in_range_spec = tie.close (tie.spec entries-requires entries-requires-2 returns)

@@ -12,14 +12,14 @@ use borrow.Author.Rules.{rules}
 use Rattle.operator.proofs.Operator.inverse.Statement.{statement}
 use Rattle.operator.proofs.Operator.inverse.Tie as tie
 
-check-requires : tie.Need-check-requires
+check-requires : tie.Need-check-k-requires
 check-requires c κs = search rules
 
-enum_told : tie.Need-enum-told
+enum_told : tie.Need-enum_told-1
 enum_told c = search rules
 
-passed : (c : tie.After-enum-told) → check_of c.before.before.before.args.self ≡ Special
-passed c = sym c.before.before.check.ensures.check ∙ c.enum_told.given.1
+passed : (c : tie.In-Special) → check_of c.args.self ≡ Special
+passed c = sym c.check-k.ensures.check ∙ c.in-Special.is
 
 adjugate-requires : tie.Need-adjugate-requires
 adjugate-requires c κs = (accepted _ (passed c)).small
@@ -27,43 +27,43 @@ adjugate-requires c κs = (accepted _ (passed c)).small
 whole-requires : tie.Need-whole-requires
 whole-requires c κs = search rules
 
-whole_is : (c : tie.After-whole) → to_z w64 (of_z w64 c.whole.result) ≡ det_whole c.before.before.before.before.before.args.self
-whole_is c = back w64 c.whole.type-inv ∙ c.whole.ensures
+whole_is : (c : tie.After-whole) → to_z w64 (of_z w64 c.whole.result) ≡ det_whole c.args.self
+whole_is c = back w64 c.whole.type_inv ∙ c.whole.ensures
 
 times-requires : tie.Need-times-requires
 times-requires c κs =
     let a = accepted _ (passed c.before.before) in
-    rw (whole_is c, c.before.adjugate.ensures) (a.unit, adjugate-small 100 _ a.small)
+    rw (whole_is c, c.adjugate.ensures) (a.unit, adjugate-small 100 _ a.small)
 
-enum-told-2 : tie.Need-enum-told-2
+enum-told-2 : tie.Need-enum_told-in-OutOfRange
 enum-told-2 c = search rules
 
-enum-told-3 : tie.Need-enum-told-3
+enum-told-3 : tie.Need-enum_told-in-OddParity
 enum-told-3 c = search rules
 
-enum-told-4 : tie.Need-enum-told-4
+enum-told-4 : tie.Need-enum_told-in-NotSpecial
 enum-told-4 c = search rules
 
-returns : tie.Need-returns
+returns : tie.Need-returns-in-Special
 unfolding inverse_of
 returns c =
     let d = c.before in
-    inverts (rw (passed d.before.before) (ap Undo (c.times.ensures ∙ ap₂ times (whole_is d) d.before.adjugate.ensures)))
+    inverts (rw (passed d.before.before) (ap Undo (c.times.ensures ∙ ap₂ times (whole_is d) d.adjugate.ensures)))
 
-returns-2 : tie.Need-returns-2
+returns-2 : tie.Need-returns-in-OutOfRange
 unfolding inverse_of
-returns-2 c = inverts (rw (← c.before.before.check.ensures.check, c.enum-told2.given.1) refl)
+returns-2 c = inverts (rw (← c.check-k.ensures.check, c.in-OutOfRange.is) refl)
 
-returns-3 : tie.Need-returns-3
+returns-3 : tie.Need-returns-in-OddParity
 unfolding inverse_of
-returns-3 c = inverts (rw (← c.before.before.check.ensures.check, c.enum-told3.given.1) refl)
+returns-3 c = inverts (rw (← c.check-k.ensures.check, c.in-OddParity.is) refl)
 
-returns-4 : tie.Need-returns-4
+returns-4 : tie.Need-returns-in-NotSpecial
 unfolding inverse_of
-returns-4 c = inverts (rw (← c.before.before.check.ensures.check, c.enum-told4.given.1) refl)
+returns-4 c = inverts (rw (← c.check-k.ensures.check, c.in-NotSpecial.is) refl)
 
-pub inverse-spec : {M : Type 1} → statement M
-inverse-spec =
+pub inverse_spec : {M : Type 1} → statement M
+inverse_spec =
     tie.close
     (tie.spec
     check-requires

@@ -14,7 +14,7 @@ use borrow.Author.Rules.{rules}
 use Rattle.operator.proofs.Operator.is_special.Statement.{statement}
 use Rattle.operator.proofs.Operator.is_special.Tie as tie
 
-whole-requires : tie.Need-whole-requires
+whole-requires : tie.Need-whole-w-requires
 whole-requires c κs = search rules
 
 root-requires : tie.Need-root-requires
@@ -27,9 +27,9 @@ is {z} y h e f = equal-bits w64 z y (record { sfits = h }) f ∙ ap (λ x. equal
 returns : tie.Need-returns
 unfolding special
 returns c =
-    let w = c.before.whole in
+    let w = c.whole-w in
     let r = c.root in
-    ap₂ ◌&&◌ (ap₂ ◌||◌ (is (pos 1) w.type-inv w.ensures (size→fits (omega arith))) (is (negsuc 0) w.type-inv w.ensures (size→fits (omega arith)))) (is (pos 0) r.type-inv r.ensures (size→fits (omega arith)))
+    ap₂ ◌&&◌ (ap₂ ◌||◌ (is (pos 1) w.type_inv w.ensures (size→fits (omega arith))) (is (negsuc 0) w.type_inv w.ensures (size→fits (omega arith)))) (is (pos 0) r.type_inv r.ensures (size→fits (omega arith)))
 
-pub is-special-spec : {M : Type 1} → statement M
-is-special-spec = tie.close (tie.spec whole-requires root-requires returns)
+pub is_special_spec : {M : Type 1} → statement M
+is_special_spec = tie.close (tie.spec whole-requires root-requires returns)

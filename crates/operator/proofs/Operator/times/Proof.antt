@@ -49,21 +49,21 @@ scaled-requires-8 c κs =
 returns : tie.Need-returns
 unfolding times
 returns c =
-    let c7 = c.before.before in
-    let c6 = c7.before.before in
-    let c5 = c6.before.before in
-    let c4 = c5.before.before in
-    let c3 = c4.before.before in
-    let c2 = c3.before.before in
-    let c1 = c2.before.before in
+    let c7 = c in
+    let c6 = c7 in
+    let c5 = c6 in
+    let c4 = c5 in
+    let c3 = c4 in
+    let c2 = c3 in
+    let c1 = c2 in
     let s = c1.before.before in
-    let f = fits s in
+    let f = fits s.before.before.before.before.before.before.before.before.before.before.before.before.before.before in
     simp (to_z-of_z s.ranges.k, to_z-of_z f.a, to_z-of_z f.b, to_z-of_z f.c, to_z-of_z f.d, to_z-of_z f.ai, to_z-of_z f.bi, to_z-of_z f.ci, to_z-of_z f.di) at
-    (ext (back w16 c1.scaled.type-inv ∙ c1.scaled.ensures) (back w16 c2.scaled2.type-inv ∙ c2.scaled2.ensures) (back w16 c3.scaled3.type-inv ∙ c3.scaled3.ensures) (back w16 c4.scaled4.type-inv ∙ c4.scaled4.ensures)
-    (back w16 c5.scaled5.type-inv ∙ c5.scaled5.ensures) (back w16 c6.scaled6.type-inv ∙ c6.scaled6.ensures) (back w16 c7.scaled7.type-inv ∙ c7.scaled7.ensures) (back w16 c.scaled8.type-inv ∙ c.scaled8.ensures))
+    (ext (back w16 c1.scaled.type_inv ∙ c1.scaled.ensures) (back w16 c2.scaled-2.type_inv ∙ c2.scaled-2.ensures) (back w16 c3.scaled-3.type_inv ∙ c3.scaled-3.ensures) (back w16 c4.scaled-4.type_inv ∙ c4.scaled-4.ensures)
+    (back w16 c5.scaled-5.type_inv ∙ c5.scaled-5.ensures) (back w16 c6.scaled-6.type_inv ∙ c6.scaled-6.ensures) (back w16 c7.scaled-7.type_inv ∙ c7.scaled-7.ensures) (back w16 c.scaled-8.type_inv ∙ c.scaled-8.ensures))
 
-pub times-spec : {M : Type 1} → statement M
-times-spec =
+pub times_spec : {M : Type 1} → statement M
+times_spec =
     tie.close
     (tie.spec
     scaled-requires

@@ -29,114 +29,114 @@ record Words (w : WidePoint) : Type 0 where
 words : (s : tie.Start) → Words s.args.self
 words s = record { a = search rules; b = search rules; c = search rules; d = search rules }
 
-to-i32-requires : tie.Need-to-i32-requires
+to-i32-requires : tie.Need-to_i32-requires
 to-i32-requires c κs = search rules
 
-enum-known-a : tie.Need-enum-known-a
+enum-known-a : tie.Need-enum_known-a
 enum-known-a c = search rules
 
-enum_told : tie.Need-enum-told
+enum_told : tie.Need-enum_told-1
 enum_told c = search rules
 
-returns : tie.Need-returns
+returns : tie.Need-returns-in_default
 unfolding narrowed
 returns c =
-    let n = c.before.before in
+    let n = c in
     let s = n.before.before in
     let w = s.args.self in
-    rw (said w.a _ N.TooWide (words s).a n.to-i32.ensures c.enum_told.given.1) refl
+    rw (said w.a _ N.TooWide (words s.before).a n.to_i32.ensures c.in_default.is) refl
 
-to-i32-requires-2 : tie.Need-to-i32-requires-2
+to-i32-requires-2 : tie.Need-to_i32-requires-2
 to-i32-requires-2 c κs = search rules
 
-enum-known-b : tie.Need-enum-known-b
+enum-known-b : tie.Need-enum_known-b
 enum-known-b c = search rules
 
-enum-told-2 : tie.Need-enum-told-2
+enum-told-2 : tie.Need-enum_told-in_default-to_i32
 enum-told-2 c = search rules
 
-returns-2 : tie.Need-returns-2
+returns-2 : tie.Need-returns-in_default-to_i32
 unfolding narrowed
 returns-2 c =
-    let n = c.before.before in
-    let a = n.before.before.before in
+    let n = c in
+    let a = n in
     let s = a.before.before.before.before in
     let w = s.args.self in
     rw (
-      fits w.a _ _ (words s).a a.before.before.to-i32.ensures a.a.given.1,
-      said w.b _ N.TooWide (words s).b n.to-i322.ensures c.enum-told2.given.1,
+      fits w.a _ _ (words s.before.before).a a.to_i32.ensures a.in-Fits.is,
+      said w.b _ N.TooWide (words s).b-1 n.to_i32-2.ensures c.in_default-to_i32.is,
     )
     refl
 
-to-i32-requires-3 : tie.Need-to-i32-requires-3
+to-i32-requires-3 : tie.Need-to_i32-requires-3
 to-i32-requires-3 c κs = search rules
 
-enum-known-c : tie.Need-enum-known-c
+enum-known-c : tie.Need-enum_known-c
 enum-known-c c = search rules
 
-enum-told-3 : tie.Need-enum-told-3
+enum-told-3 : tie.Need-enum_told-in_default-to_i32-2
 enum-told-3 c = search rules
 
-returns-3 : tie.Need-returns-3
+returns-3 : tie.Need-returns-in_default-to_i32-2
 unfolding narrowed
 returns-3 c =
-    let n = c.before.before in
-    let b = n.before.before.before in
-    let a = b.before.before.before.before.before in
+    let n = c in
+    let b = n in
+    let a = b in
     let s = a.before.before.before.before in
     let w = s.args.self in
     rw (
-      fits w.a _ _ (words s).a a.before.before.to-i32.ensures a.a.given.1,
-      fits w.b _ _ (words s).b b.before.before.to-i322.ensures b.b.given.1,
-      said w.c _ N.TooWide (words s).c n.to-i323.ensures c.enum-told3.given.1,
+      fits w.a _ _ (words s.before.before.before.before.before).a-1 a.to_i32.ensures a.in-Fits.is,
+      fits w.b-1 _ _ (words s).b-1 b.to_i32-2.ensures b.in-Fits-to_i32.is,
+      said w.c-1 _ N.TooWide (words s).c-1 n.to_i32-3.ensures c.in_default-to_i32-2.is,
     )
     refl
 
-to-i32-requires-4 : tie.Need-to-i32-requires-4
+to-i32-requires-4 : tie.Need-to_i32-requires-4
 to-i32-requires-4 c κs = search rules
 
-enum-known-d : tie.Need-enum-known-d
+enum-known-d : tie.Need-enum_known-d
 enum-known-d c = search rules
 
-enum-told-4 : tie.Need-enum-told-4
+enum-told-4 : tie.Need-enum_told-in_default-to_i32-3
 enum-told-4 c = search rules
 
-returns-4 : tie.Need-returns-4
+returns-4 : tie.Need-returns-in_default-to_i32-3
 unfolding narrowed
 returns-4 c =
-    let n = c.before.before in
-    let k = n.before.before.before in
-    let b = k.before.before.before.before.before in
-    let a = b.before.before.before.before.before in
+    let n = c in
+    let k = n in
+    let b = k in
+    let a = b in
     let s = a.before.before.before.before in
     let w = s.args.self in
     rw (
-      fits w.a _ _ (words s).a a.before.before.to-i32.ensures a.a.given.1,
-      fits w.b _ _ (words s).b b.before.before.to-i322.ensures b.b.given.1,
-      fits w.c _ _ (words s).c k.before.before.to-i323.ensures k.c.given.1,
-      said w.d _ N.TooWide (words s).d n.to-i324.ensures c.enum-told4.given.1,
+      fits w.a _ _ (words s.before.before.before.before.before.before.before.before.before.before).a-1 a.to_i32.ensures a.in-Fits.is,
+      fits w.b-1 _ _ (words s).b-1 b.to_i32-2.ensures b.in-Fits-to_i32.is,
+      fits w.c-1 _ _ (words s).c-1 k.to_i32-3.ensures k.in-Fits-to_i32-2.is,
+      said w.d-1 _ N.TooWide (words s).d-1 n.to_i32-4.ensures c.in_default-to_i32-3.is,
     )
     refl
 
-returns-5 : tie.Need-returns-5
+returns-5 : tie.Need-returns
 unfolding narrowed
 returns-5 c =
-    let d = c.before in
-    let k = d.before.before.before.before.before in
-    let b = k.before.before.before.before.before in
-    let a = b.before.before.before.before.before in
+    let d = c in
+    let k = d in
+    let b = k in
+    let a = b in
     let s = a.before.before.before.before in
     let w = s.args.self in
     rw (
-      fits w.a _ _ (words s).a a.before.before.to-i32.ensures a.a.given.1,
-      fits w.b _ _ (words s).b b.before.before.to-i322.ensures b.b.given.1,
-      fits w.c _ _ (words s).c k.before.before.to-i323.ensures k.c.given.1,
-      fits w.d _ _ (words s).d d.before.before.to-i324.ensures d.d.given.1,
+      fits w.a _ _ (words s.before.before.before.before.before.before.before.before.before.before).a-1 a.to_i32.ensures a.in-Fits.is,
+      fits w.b-1 _ _ (words s).b-1 b.to_i32-2.ensures b.in-Fits-to_i32.is,
+      fits w.c-1 _ _ (words s).c-1 k.to_i32-3.ensures k.in-Fits-to_i32-2.is,
+      fits w.d-1 _ _ (words s).d-1 d.to_i32-4.ensures d.in-Fits-to_i32-3.is,
     )
     refl
 
-pub narrow-spec : {M : Type 1} → statement M
-narrow-spec =
+pub narrow_spec : {M : Type 1} → statement M
+narrow_spec =
     tie.close
     (tie.spec
     to-i32-requires

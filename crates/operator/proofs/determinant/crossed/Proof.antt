@@ -24,32 +24,32 @@ fits c =
       size→fits (omega (arith, crossed-size f.x f.y f.z f.w)),
     )
 
-cast-result : tie.Need-overflow-cast-result
+cast-result : tie.Need-overflow_cast-result
 cast-result c = let h = fits c in search rules
 
-cast-result-2 : tie.Need-overflow-cast-result-2
+cast-result-2 : tie.Need-overflow_cast-result-2
 cast-result-2 c = let h = fits c in search rules
 
-mul-result : tie.Need-overflow-mul-result
+mul-result : tie.Need-overflow_mul-result
 mul-result c = let h = fits c in search rules
 
-cast-result-3 : tie.Need-overflow-cast-result-3
+cast-result-3 : tie.Need-overflow_cast-result-3
 cast-result-3 c = let h = fits c in search rules
 
-cast-result-4 : tie.Need-overflow-cast-result-4
+cast-result-4 : tie.Need-overflow_cast-result-4
 cast-result-4 c = let h = fits c in search rules
 
-mul-result-2 : tie.Need-overflow-mul-result-2
+mul-result-2 : tie.Need-overflow_mul-result-2
 mul-result-2 c = let h = fits c in search rules
 
-sub-result : tie.Need-overflow-sub-result
+sub-result : tie.Need-overflow_sub-result
 sub-result c = let h = fits c in search rules
 
 returns : tie.Need-returns
 returns c = let h = fits c in search rules
 
-pub crossed-spec : {M : Type 1} → statement M
-crossed-spec =
+pub crossed_spec : {M : Type 1} → statement M
+crossed_spec =
     tie.close
     (tie.spec
     cast-result

@@ -47,37 +47,37 @@ module _ (g : Operator) where
 crossed-requires : tie.Need-crossed-requires
 crossed-requires c κs = search rules
 
-e1 : (c : tie.After-crossed) → to_z w64 (of_z w64 c.crossed.result) ≡ x1 c.before.before.before.before.before.args.g
-e1 c = let f = fits c.before.before.before.before.before in back w64 c.crossed.type-inv ∙ rw (to_z-of_z f.d, to_z-of_z f.ci, to_z-of_z f.di, to_z-of_z f.c) at c.crossed.ensures
+e1 : (c : tie.After-crossed) → to_z w64 (of_z w64 c.crossed.result) ≡ x1 c.args.g
+e1 c = let f = fits c.before.before.before.before.before in back w64 c.crossed.type_inv ∙ rw (to_z-of_z f.d, to_z-of_z f.ci, to_z-of_z f.di, to_z-of_z f.c) at c.crossed.ensures
 
 crossed-requires-2 : tie.Need-crossed-requires-2
 crossed-requires-2 c κs = search rules
 
-e2 : (c : tie.After-crossed2) → to_z w64 (of_z w64 c.crossed2.result) ≡ x2 c.before.before.before.before.before.before.before.before.before.before.args.g
-e2 c = let f = fits c.before.before.before.before.before.before.before.before.before.before in back w64 c.crossed2.type-inv ∙ rw (to_z-of_z f.d, to_z-of_z f.ai, to_z-of_z f.di, to_z-of_z f.a) at c.crossed2.ensures
+e2 : (c : tie.After-crossed-2) → to_z w64 (of_z w64 c.crossed-2.result) ≡ x2 c.args.g
+e2 c = let f = fits c.before.before.before.before.before.before.before.before.before.before in back w64 c.crossed-2.type_inv ∙ rw (to_z-of_z f.d, to_z-of_z f.ai, to_z-of_z f.di, to_z-of_z f.a) at c.crossed-2.ensures
 
 crossed-requires-3 : tie.Need-crossed-requires-3
 crossed-requires-3 c κs = search rules
 
-e3 : (c : tie.After-crossed3) → to_z w64 (of_z w64 c.crossed3.result) ≡ x3 c.before.before.before.before.before.before.before.before.before.before.before.before.before.before.before.args.g
-e3 c = let f = fits c.before.before.before.before.before.before.before.before.before.before.before.before.before.before.before in back w64 c.crossed3.type-inv ∙ rw (to_z-of_z f.bi, to_z-of_z f.c, to_z-of_z f.b, to_z-of_z f.ci) at c.crossed3.ensures
+e3 : (c : tie.After-crossed-3) → to_z w64 (of_z w64 c.crossed-3.result) ≡ x3 c.args.g
+e3 c = let f = fits c.before.before.before.before.before.before.before.before.before.before.before.before.before.before.before in back w64 c.crossed-3.type_inv ∙ rw (to_z-of_z f.bi, to_z-of_z f.c, to_z-of_z f.b, to_z-of_z f.ci) at c.crossed-3.ensures
 
 crossed-requires-4 : tie.Need-crossed-requires-4
 crossed-requires-4 c κs = search rules
 
-e4 : (c : tie.After-crossed4) → to_z w64 (of_z w64 c.crossed4.result) ≡ x4 c.before.before.before.before.before.before.before.before.before.before.before.before.before.before.before.before.before.before.before.before.args.g
-e4 c = let f = fits c.before.before.before.before.before.before.before.before.before.before.before.before.before.before.before.before.before.before.before.before in back w64 c.crossed4.type-inv ∙ rw (to_z-of_z f.b, to_z-of_z f.ai, to_z-of_z f.bi, to_z-of_z f.a) at c.crossed4.ensures
+e4 : (c : tie.After-crossed-4) → to_z w64 (of_z w64 c.crossed-4.result) ≡ x4 c.args.g
+e4 c = let f = fits c.before.before.before.before.before.before.before.before.before.before.before.before.before.before.before.before.before.before.before.before in back w64 c.crossed-4.type_inv ∙ rw (to_z-of_z f.b, to_z-of_z f.ai, to_z-of_z f.bi, to_z-of_z f.a) at c.crossed-4.ensures
 
-add-result : tie.Need-overflow-add-result
+add-result : tie.Need-overflow_add-result
 add-result c = rw (e1 c.before.before.before.before.before, e2 c) (two _ (fits c.before.before.before.before.before.before.before.before.before.before))
 
-add-result-2 : tie.Need-overflow-add-result-2
+add-result-2 : tie.Need-overflow_add-result-2
 add-result-2 c =
     let c2 = c.before.before.before.before.before in
     let f = fits c2.before.before.before.before.before.before.before.before.before.before in
     rw (e1 c2.before.before.before.before.before, e2 c2, to_z-of_z (two _ f), e3 c) (three _ f)
 
-add-result-3 : tie.Need-overflow-add-result-3
+add-result-3 : tie.Need-overflow_add-result-3
 add-result-3 c =
     let c3 = c.before.before.before.before.before in
     let c2 = c3.before.before.before.before.before in
@@ -92,8 +92,8 @@ returns c =
     let f = fits s in
     rw (e1 c2.before.before.before.before.before, e2 c2, to_z-of_z (two _ f), e3 c3, to_z-of_z (three _ f), e4 c, to_z-of_z (four _ f)) (sum_is s.args.g)
 
-pub root-spec : {M : Type 1} → statement M
-root-spec =
+pub root_spec : {M : Type 1} → statement M
+root_spec =
     tie.close
     (tie.spec
     crossed-requires

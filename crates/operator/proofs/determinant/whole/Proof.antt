@@ -23,11 +23,11 @@ crossed-requires c κs = search rules
 crossed-requires-2 : tie.Need-crossed-requires-2
 crossed-requires-2 c κs = search rules
 
-first : (c : tie.After-crossed) → let g = c.before.before.before.before.before.args.g in to_z w64 (of_z w64 c.crossed.result) ≡ g.d *ℤ g.bi -ℤ g.di *ℤ g.b
-first c = let f = fits c.before.before.before.before.before in back w64 c.crossed.type-inv ∙ rw (to_z-of_z f.d, to_z-of_z f.bi, to_z-of_z f.di, to_z-of_z f.b) at c.crossed.ensures
+first : (c : tie.After-crossed) → let g = c.args.g in to_z w64 (of_z w64 c.crossed.result) ≡ g.d *ℤ g.bi -ℤ g.di *ℤ g.b
+first c = let f = fits c.before.before.before.before.before in back w64 c.crossed.type_inv ∙ rw (to_z-of_z f.d, to_z-of_z f.bi, to_z-of_z f.di, to_z-of_z f.b) at c.crossed.ensures
 
-second : (c : tie.After-crossed2) → let g = c.before.before.before.before.before.before.before.before.before.before.args.g in to_z w64 (of_z w64 c.crossed2.result) ≡ g.c *ℤ g.ai -ℤ g.a *ℤ g.ci
-second c = let f = fits c.before.before.before.before.before.before.before.before.before.before in back w64 c.crossed2.type-inv ∙ rw (to_z-of_z f.c, to_z-of_z f.ai, to_z-of_z f.a, to_z-of_z f.ci) at c.crossed2.ensures
+second : (c : tie.After-crossed-2) → let g = c.args.g in to_z w64 (of_z w64 c.crossed-2.result) ≡ g.c *ℤ g.ai -ℤ g.a *ℤ g.ci
+second c = let f = fits c.before.before.before.before.before.before.before.before.before.before in back w64 c.crossed-2.type_inv ∙ rw (to_z-of_z f.c, to_z-of_z f.ai, to_z-of_z f.a, to_z-of_z f.ci) at c.crossed-2.ensures
 
 -- their sum is in range, and the determinant's first number
 fits_sum : (g : Operator) → Fits16 g → SFits w64 ((g.d *ℤ g.bi -ℤ g.di *ℤ g.b) +ℤ (g.c *ℤ g.ai -ℤ g.a *ℤ g.ci))
@@ -37,11 +37,11 @@ sum_is : (g : Operator) → (g.d *ℤ g.bi -ℤ g.di *ℤ g.b) +ℤ (g.c *ℤ g.
 unfolding det_whole
 sum_is g = by_ring (g.a ∷ g.b ∷ g.c ∷ g.d ∷ g.ai ∷ g.bi ∷ g.ci ∷ g.di ∷ []) (search polyZ depth 60) refl
 
-add-result : tie.Need-overflow-add-result
+add-result : tie.Need-overflow_add-result
 add-result c = rw (first c.before.before.before.before.before, second c) (fits_sum _ (fits c.before.before.before.before.before.before.before.before.before.before))
 
 returns : tie.Need-returns
 returns c = let s = c.before.before.before.before.before.before.before.before.before.before in rw (first c.before.before.before.before.before, second c, to_z-of_z (fits_sum _ (fits s))) (sum_is s.args.g)
 
-pub whole-spec : {M : Type 1} → statement M
-whole-spec = tie.close (tie.spec crossed-requires crossed-requires-2 add-result returns)
+pub whole_spec : {M : Type 1} → statement M
+whole_spec = tie.close (tie.spec crossed-requires crossed-requires-2 add-result returns)

@@ -16,7 +16,7 @@ sum-requires c κs = search rules
 sum-requires-2 : tie.Need-sum-requires-2
 sum-requires-2 c κs = search rules
 
-half-difference-requires : tie.Need-half-difference-requires
+half-difference-requires : tie.Need-half_difference-requires
 half-difference-requires c κs = search rules
 
 apart : (x y z w : ℤ) → (x +ℤ y) -ℤ (z +ℤ w) ≡ x +ℤ y -ℤ z -ℤ w
@@ -24,10 +24,10 @@ apart x y z w = by_ring (x ∷ y ∷ z ∷ w ∷ []) (search polyZ depth 40) ref
 
 returns : tie.Need-returns
 returns c =
-    let s = c.before.before.before in
-    let xy = c.before.before.sum in
-    let zw = c.before.sum2 in
-    rw (back w32 c.half-difference.type-inv) (c.half-difference.ensures ∙ ap half (ap₂ ◌-ℤ◌ (back w32 xy.type-inv ∙ xy.ensures ∙ ap₂ ◌+ℤ◌ (to_z-of_z s.ranges.x) (to_z-of_z s.ranges.y)) (back w32 zw.type-inv ∙ zw.ensures ∙ ap₂ ◌+ℤ◌ (to_z-of_z s.ranges.z) (to_z-of_z s.ranges.w)) ∙ apart s.args.x s.args.y s.args.z s.args.w))
+    let s = c in
+    let xy = c.sum in
+    let zw = c.sum-2 in
+    rw (back w32 c.half_difference.type_inv) (c.half_difference.ensures ∙ ap half (ap₂ ◌-ℤ◌ (back w32 xy.type_inv ∙ xy.ensures ∙ ap₂ ◌+ℤ◌ (to_z-of_z s.ranges.x) (to_z-of_z s.ranges.y)) (back w32 zw.type_inv ∙ zw.ensures ∙ ap₂ ◌+ℤ◌ (to_z-of_z s.ranges.z) (to_z-of_z s.ranges.w)) ∙ apart s.args.x s.args.y s.args.z s.args.w))
 
-pub half-difference-spec : {M : Type 1} → statement M
-half-difference-spec = tie.close (tie.spec sum-requires sum-requires-2 half-difference-requires returns)
+pub half_difference_spec : {M : Type 1} → statement M
+half_difference_spec = tie.close (tie.spec sum-requires sum-requires-2 half-difference-requires returns)

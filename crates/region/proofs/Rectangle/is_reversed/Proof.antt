@@ -21,14 +21,14 @@ fits c =
     let e : SFits w32 r.yh = search rules in
     (a, b, d, e)
 
-returns : tie.Need-returns
-returns c = let s = c.before.before.before in rw (below _ _ true (fits s).1 (fits s).0 c.if1.true) refl
+returns : tie.Need-returns-then-self
+returns c = let s = c.before.before.before in rw (below _ _ true (fits s).1 (fits s).0 c.if-self.true) refl
 
-returns-2 : tie.Need-returns-2
+returns-2 : tie.Need-returns
 returns-2 c =
-    let e = c.before.before in
+    let e = c in
     let s = e.before.before.before in
-    rw (below _ _ false (fits s).1 (fits s).0 e.if1.false, below _ _ _ (fits s).3 (fits s).2 refl) refl
+    rw (below _ _ false (fits s.before.before).1 (fits s.before.before).0 e.if-self.false, below _ _ _ (fits s.before.before).3 (fits s.before.before).2 refl) refl
 
-pub is-reversed-spec : {M : Type 1} → statement M
-is-reversed-spec = tie.close (tie.spec returns returns-2)
+pub is_reversed_spec : {M : Type 1} → statement M
+is_reversed_spec = tie.close (tie.spec returns returns-2)

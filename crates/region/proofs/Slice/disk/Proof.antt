@@ -5,14 +5,14 @@ use borrow.Author.Rules.{rules}
 use Rattle.region.proofs.Slice.disk.Statement.{statement}
 use Rattle.region.proofs.Slice.disk.Tie as tie
 
-cast-n : tie.Need-overflow-cast-n
+cast-n : tie.Need-overflow_cast-n
 cast-n c = search rules
 
-mul-t3 : tie.Need-overflow-mul-t3
-mul-t3 c = let h : c.before.args.self.n ≤ 65535 = omega arith in omega (arith, mul-le-mul h h)
+mul-t3 : tie.Need-overflow_mul-result
+mul-t3 c = let h : c.args.self.n ≤ 65535 = omega arith in omega (arith, mul-le-mul h h)
 
 returns : tie.Need-returns
 returns c = search rules
 
-pub disk-spec : {M : Type 1} → statement M
-disk-spec = tie.close (tie.spec cast-n mul-t3 returns)
+pub disk_spec : {M : Type 1} → statement M
+disk_spec = tie.close (tie.spec cast-n mul-t3 returns)

@@ -87,12 +87,12 @@ returns-2 c =
     let m = c in
     let e = m in
     let p = e.before in
-    let s = start p in
+    let s = start p.before.before.before.before.before.before in
     let f = fits-v s in
     let g = fits-w s in
     let x = m.word-3.ensures ∙ ap₂ word (to_z-of_z f.a) (to_z-of_z f.b) in
     let y = c.word-4.ensures ∙ ap₂ word (to_z-of_z g.a) (to_z-of_z g.b) in
-    let low = sym (low-v p) ∙ e.if-word.false ∙ low-w p in
+    let low = sym (low-v p.before.before.before.before.before.before) ∙ e.if-word.false ∙ low-w p.before.before.before.before.before.before in
     eqb_same _ _ _ _ (λ h. let high = sym x ∙ h ∙ y in omega (arith, rank-words s.args.v, rank-words s.args.w)) (λ h. x ∙ same-high s h ∙ sym y)
 
 pub is_same_spec : {M : Type 1} → statement M
