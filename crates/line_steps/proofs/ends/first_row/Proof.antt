@@ -17,32 +17,32 @@ fits s r = divided_fits (2 * bound) s.m s.lo.p (lo-divided s r) (omega arith)
 
 floor-requires : tie.Need-floor-requires
 floor-requires c κs =
-    let s = c.before.before in
+    let s = c in
     let f = fits s.args.s s.requires.0 in
     rw (to_z-of_z f.0, to_z-of_z f.1) (lo-divided s.args.s s.requires.0)
 
 floor-requires-2 : tie.Need-floor-requires-2
 floor-requires-2 c κs =
-    let s = c.before.before.before.before.before in
+    let s = c in
     let f = fits s.args.t s.requires.1 in
     rw (to_z-of_z f.0, to_z-of_z f.1) (lo-divided s.args.t s.requires.1)
 
 -- what the two calls answer
-module _ (c : tie.After-floor2) where
+module _ (c : tie.After-floor-2) where
   abbrev s : tie.Start
   s = c.before.before.before.before.before.before
 
-  first : c.before.before.before.floor.result ≡ floor_of s.args.s.m s.args.s.lo.p
-  first = let f = fits s.args.s s.pre.0 in rw (to_z-of_z f.0, to_z-of_z f.1) at c.before.before.before.floor.ensures
+  first : c.floor.result ≡ floor_of s.args.s.m s.args.s.lo.p
+  first = let f = fits s.args.s s.requires.0 in rw (to_z-of_z f.0, to_z-of_z f.1) at c.floor.ensures
 
-  second : c.floor2.result ≡ floor_of s.args.t.m s.args.t.lo.p
-  second = let f = fits s.args.t s.pre.1 in rw (to_z-of_z f.0, to_z-of_z f.1) at c.floor2.ensures
+  second : c.floor-2.result ≡ floor_of s.args.t.m s.args.t.lo.p
+  second = let f = fits s.args.t s.requires.1 in rw (to_z-of_z f.0, to_z-of_z f.1) at c.floor-2.ensures
 
-add-result : tie.Need-overflow-add-result
+add-result : tie.Need-overflow_add-result
 add-result c = let e = first c in let f = second c in omega (arith, lo-below (s c).args.s (s c).requires.0, lo-below (s c).args.t (s c).requires.1)
 
 returns : tie.Need-returns
 returns c = ap₂ (λ (x y : ℕ). (x + y) / 2) (first c) (second c)
 
-pub first-row-spec : {M : Type 1} → statement M
-first-row-spec = tie.close (tie.spec floor-requires floor-requires-2 add-result returns)
+pub first_row_spec : {M : Type 1} → statement M
+first_row_spec = tie.close (tie.spec floor-requires floor-requires-2 add-result returns)

@@ -30,29 +30,29 @@ fits c =
     let g = c.requires.size in
     record { product = size→fits (omega arith); sum = size→fits (omega arith); size = omega arith }
 
-mul-result : tie.Need-overflow-mul-result
+mul-result : tie.Need-overflow_mul-result
 mul-result c = rw (to_z-of_z c.ranges.n) (fits c).product
 
-add-result : tie.Need-overflow-add-result
+add-result : tie.Need-overflow_add-result
 add-result c = rw (to_z-of_z c.ranges.n, to_z-of_z c.ranges.x, to_z-of_z (fits c).product) (fits c).sum
 
-cast-result : tie.Need-overflow-cast-result
+cast-result : tie.Need-overflow_cast-result
 cast-result c =
     let f = fits c in
     let h = f.size in
     rw (to_z-of_z c.ranges.n, to_z-of_z c.ranges.x, to_z-of_z f.product, to_z-of_z f.sum) (nonNeg-of _ (up-nn c.args.n c.args.x c.requires.one c.requires.from), omega arith)
 
-cast-result-2 : tie.Need-overflow-cast-result-2
+cast-result-2 : tie.Need-overflow_cast-result-2
 cast-result-2 c =
     let h = c.requires.scale in
     rw (to_z-of_z c.ranges.n) (rw (n_is c.args.n c.args.x c.requires.one c.requires.from) tt, omega arith)
 
-div-result : tie.Need-nonzero-div-result
+div-result : tie.Need-nonzero_div-result
 div-result c = rw (to_z-of_z c.ranges.n) (N-one c.args.n c.args.x c.requires.one c.requires.from)
 
 returns : tie.Need-returns
 returns c = rw (to_z-of_z c.ranges.n, to_z-of_z c.ranges.x, to_z-of_z (fits c).product, to_z-of_z (fits c).sum) refl
 
-pub floor-spec : {M : Type 1} → statement M
-floor-spec =
+pub floor_spec : {M : Type 1} → statement M
+floor_spec =
     tie.close (tie.spec mul-result add-result cast-result cast-result-2 div-result returns)

@@ -13,13 +13,13 @@ record Fits (c : tie.Start) : Type 0 where
 fits : (c : tie.Start) → Fits c
 fits c = record { n = search rules; lo = search rules; hi = search rules }
 
-cast-t2 : tie.Need-overflow-cast-t2
+cast-t2 : tie.Need-overflow_cast-result
 cast-t2 c = let f = fits c.before.before in rw (to_z-of_z f.n) (sfits_widen tt f.n)
 
-cast-t3 : tie.Need-overflow-cast-t3
+cast-t3 : tie.Need-overflow_cast-result-2
 cast-t3 c = let f = fits c.before.before.before.before in rw (to_z-of_z f.lo) (sfits_widen tt f.lo)
 
-cast-t5 : tie.Need-overflow-cast-t5
+cast-t5 : tie.Need-overflow_cast-result-3
 cast-t5 c = let f = fits c.before.before.before.before.before.before in rw (to_z-of_z f.hi) (sfits_widen tt f.hi)
 
 returns : tie.Need-returns
@@ -27,5 +27,5 @@ returns c =
     let f = fits c.before.before.before.before.before.before in
     simp (to_z-of_z f.n, to_z-of_z f.lo, to_z-of_z f.hi, to_z-of_z {w = w64} (sfits_widen tt f.n), to_z-of_z {w = w64} (sfits_widen tt f.lo), to_z-of_z {w = w64} (sfits_widen tt f.hi))
 
-pub strip-spec : {M : Type 1} → statement M
-strip-spec = tie.close (tie.spec cast-t2 cast-t3 cast-t5 returns)
+pub strip_spec : {M : Type 1} → statement M
+strip_spec = tie.close (tie.spec cast-t2 cast-t3 cast-t5 returns)

@@ -12,49 +12,49 @@ use Rattle.line_steps.proofs.pair_rows.back.Statement.{statement}
 use Rattle.line_steps.proofs.pair_rows.back.Tie as tie
 
 conjugate-requires : tie.Need-conjugate-requires
-conjugate-requires c κs = sized_more size_of_unit (2 ^ 60) _ (omega arith) c.before.before.requires.1
+conjugate-requires c κs = sized_more size_of_unit (2 ^ 60) _ (omega arith) c.requires.1
 
 pair-requires : tie.Need-pair-requires
-pair-requires c κs = let s = c.before.before.before in let h = s.requires.2 in let x = s.requires.3 in let y = s.requires.4 in (omega arith, omega arith, omega arith)
+pair-requires c κs = let s = c in let h = s.requires.2 in let x = s.requires.3 in let y = s.requires.4 in (omega arith, omega arith, omega arith)
 
 unit_size : (c : tie.After-conjugate) → Sized size_of_unit c.conjugate.result
-unit_size c = subst (Sized size_of_unit) (sym c.conjugate.ensures) (conj_size size_of_unit _ c.before.before.before.requires.1)
+unit_size c = subst (Sized size_of_unit) (sym c.conjugate.ensures) (conj_size size_of_unit _ c.requires.1)
 
-product-requires : tie.Need-product-requires
+product-requires : tie.Need-product-z-requires
 product-requires c κs = products _ _ size_of_unit (2 ^ 41) (unit_size c.before) c.pair.ensures.1 (omega arith)
 
-scaled-size : (c : tie.After-product) → Sized (2 ^ 55) c.product.result
-scaled-size c = subst (Sized (2 ^ 55)) (sym c.product.ensures) (product-size _ _ size_of_unit (2 ^ 41) (unit_size c.before.before) c.before.pair.ensures.1 (2 ^ 55) (omega arith))
+scaled-size : (c : tie.After-product-z) → Sized (2 ^ 55) c.product-z.result
+scaled-size c = subst (Sized (2 ^ 55)) (sym c.product-z.ensures) (product-size _ _ size_of_unit (2 ^ 41) (unit_size c.before.before) c.pair.ensures.1 (2 ^ 55) (omega arith))
 
-combined-requires : tie.Need-combined-requires
+combined-requires : tie.Need-combined-w-requires
 combined-requires c κs =
-    let s = c.before.before.before.before.before in
+    let s = c in
     room (pos 1) (pos 1) _ _ 1 (2 ^ 55) 1 whole (omega arith) (scaled-size c) (omega arith) s.requires.0 (omega arith)
 
 -- the pair moved back, and its size
-module _ (c : tie.After-combined) where
+module _ (c : tie.After-combined-w) where
   abbrev start : tie.Start
   start = c.before.before.before.before.before.before
 
-  moved : c.combined.result ≡ origin start.args.c.o start.args.c.u (pair_at start.args.c.half start.args.x start.args.y)
+  moved : c.combined-w.result ≡ origin start.args.c.o start.args.c.u (pair_at start.args.c.half start.args.x start.args.y)
   moved =
-      c.combined.ensures ∙ sum_is c.before.product.result start.args.c.o
-      ∙ ap (λ t. t ⊞ start.args.c.o) (c.before.product.ensures ∙ ap₂ ◌⊠◌ c.before.before.before.conjugate.ensures c.before.before.pair.ensures.0)
+      c.combined-w.ensures ∙ sum_is c.product-z.result start.args.c.o
+      ∙ ap (λ t. t ⊞ start.args.c.o) (c.product-z.ensures ∙ ap₂ ◌⊠◌ c.conjugate.ensures c.pair.ensures.0)
 
-  size : Sized (2 ^ 60) c.combined.result
-  size = subst (Sized (2 ^ 60)) (sym (c.combined.ensures ∙ sum_is c.before.product.result start.args.c.o)) (sum-size (2 ^ 55) whole (2 ^ 60) _ _ (scaled-size c.before) start.pre.0 (omega arith))
+  size : Sized (2 ^ 60) c.combined-w.result
+  size = subst (Sized (2 ^ 60)) (sym (c.combined-w.ensures ∙ sum_is c.product-z.result start.args.c.o)) (sum-size (2 ^ 55) whole (2 ^ 60) _ _ (scaled-size c.before) start.requires.0 (omega arith))
 
-conjugate-requires-2 : tie.Need-conjugate-requires-2
+conjugate-requires-2 : tie.Need-conjugate-requires-then-c
 conjugate-requires-2 c κs = size c.before
 
-returns : tie.Need-returns
-returns c = let i = c.before in c.conjugate2.ensures ∙ ap conj (moved i.before) ∙ back-turned _ _ i.if1.true
+returns : tie.Need-returns-then-c
+returns c = let i = c in c.conjugate-then-c.ensures ∙ ap conj (moved i.before.before) ∙ back-turned _ _ i.if-c.true
 
-returns-2 : tie.Need-returns-2
-returns-2 c = moved c.before ∙ back-straight _ _ c.if1.false
+returns-2 : tie.Need-returns
+returns-2 c = moved c.before ∙ back-straight _ _ c.if-c.false
 
-pub back-spec : {M : Type 1} → statement M
-back-spec =
+pub back_spec : {M : Type 1} → statement M
+back_spec =
     tie.close
     (tie.spec
     conjugate-requires

@@ -16,11 +16,11 @@ upper-requires c κs = within c
 lower-requires : tie.Need-lower-requires
 lower-requires c κs = within c.before.before
 
-returns : tie.Need-returns
-returns c h = solved-row _ _ _ _ ∙ both_of (sym c.lower.ensures ∙ h) (sym c.before.before.upper.ensures ∙ c.before.if1.true)
+returns : tie.Need-returns-then-upper
+returns c h = solved-row _ _ _ _ ∙ both_of (sym c.lower.ensures ∙ h) (sym c.upper.ensures ∙ c.if-upper.true)
 
-returns-2 : tie.Need-returns-2
+returns-2 : tie.Need-returns
 returns-2 c h = absurd (false≢true h)
 
-pub is-pair-spec : {M : Type 1} → statement M
-is-pair-spec = tie.close (tie.spec upper-requires lower-requires returns returns-2)
+pub is_pair_spec : {M : Type 1} → statement M
+is_pair_spec = tie.close (tie.spec upper-requires lower-requires returns returns-2)

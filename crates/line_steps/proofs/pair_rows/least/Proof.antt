@@ -9,14 +9,14 @@ lower-requires c κs =
     let n = c.requires.0 in
     record { first = n.first; second = n.second; middle = n.middle; row = n.row; column = omega arith }
 
-returns : tie.Need-returns
-returns c = record { from = omega arith; within = omega arith; before = λ t k l. absurd (omega arith); found = λ k. sym c.before.lower.ensures ∙ c.if1.true }
+returns : tie.Need-returns-then-lower
+returns c = record { from = omega arith; within = omega arith; before = λ t k l. absurd (omega arith); found = λ k. sym c.lower.ensures ∙ c.if-lower.true }
 
 least-requires : tie.Need-least-requires
 least-requires c κs = search rules
 
-returns-2 : tie.Need-returns-2
+returns-2 : tie.Need-returns
 returns-2 c = search rules
 
-pub least-spec : {M : Type 1} → statement M
-least-spec = tie.close (tie.spec lower-requires returns least-requires returns-2)
+pub least_spec : {M : Type 1} → statement M
+least_spec = tie.close (tie.spec lower-requires returns least-requires returns-2)

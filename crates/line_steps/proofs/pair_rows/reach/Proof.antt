@@ -30,7 +30,7 @@ module _ (s : tie.Start) where
   product : SFits w64 (pos 2 *ℤ s.args.m *ℤ (Line.coordinate s.args.t -ℤ s.args.p))
   product = size→fits (omega (arith, product-size))
 
-mul-result : tie.Need-overflow-mul-result
+mul-result : tie.Need-overflow_mul-result
 mul-result s = rw (to_z-of_z s.ranges.m) (double s)
 
 coordinate-requires : tie.Need-coordinate-requires
@@ -38,17 +38,17 @@ coordinate-requires c κs = (omega arith, omega (arith, c.requires.2))
 
 -- the coordinate
 module _ (c : tie.After-coordinate) where
-  given : to_z w64 (of_z w64 c.coordinate.result) ≡ Line.coordinate c.before.args.t
-  given = back w64 {z = c.coordinate.result} c.coordinate.type-inv ∙ c.coordinate.ensures.0
+  given : to_z w64 (of_z w64 c.coordinate.result) ≡ Line.coordinate c.args.t
+  given = back w64 {z = c.coordinate.result} c.coordinate.type_inv ∙ c.coordinate.ensures.0
 
-sub-result : tie.Need-overflow-sub-result
-sub-result c = rw (given c, to_z-of_z c.before.ranges.p) (less c.before)
+sub-result : tie.Need-overflow_sub-result
+sub-result c = rw (given c, to_z-of_z c.ranges.p) (less c.before)
 
-mul-result-2 : tie.Need-overflow-mul-result-2
+mul-result-2 : tie.Need-overflow_mul-result-2
 mul-result-2 c = let s = c.before in simp (to_z-of_z s.ranges.m, given c, to_z-of_z s.ranges.p, to_z-of_z (double s), to_z-of_z (less s)) (product s)
 
 returns : tie.Need-returns
 returns c = let s = c.before in simp (to_z-of_z s.ranges.m, given c, to_z-of_z s.ranges.p, to_z-of_z (double s), to_z-of_z (less s), to_z-of_z (product s)) (refl, product-size s)
 
-pub reach-spec : {M : Type 1} → statement M
-reach-spec = tie.close (tie.spec mul-result coordinate-requires sub-result mul-result-2 returns)
+pub reach_spec : {M : Type 1} → statement M
+reach_spec = tie.close (tie.spec mul-result coordinate-requires sub-result mul-result-2 returns)

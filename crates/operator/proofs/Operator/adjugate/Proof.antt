@@ -79,7 +79,7 @@ returns c =
     let s = c0.before.before.before.before.before in
     let f = fits s in
     let h = small s in
-    let n : (z : ℤ) → nat_abs z ≤ 200 → to_z w16 (of_z w16 z) ≡ z = λ z k. to_z-of_z (size→fits (omega arith)) in
+    let n : (z : ℤ) → nat_abs z ≤ 200 → to_z w16 (of_z w16 z) ≡ z = λ z k. to_z-of_z {w = w16} (size→fits (omega arith)) in
     rw (a-is c0, to_z-of_z (a-fits s), c-is c1, ai-is c2, ci-is c3, to_z-of_z f.b, to_z-of_z f.d, to_z-of_z f.bi, to_z-of_z f.di, computed-is s.args.self) (ext (n _ h.a) (n _ h.b) (n _ h.c) refl (n _ h.ai) refl (n _ h.ci) (n _ h.di))
 
 pub adjugate_spec : {M : Type 1} → statement M

@@ -26,9 +26,6 @@ record Words (w : WidePoint) : Type 0 where
   pub c : SFits w64 w.c
   pub d : SFits w64 w.d
 
-words : (s : tie.Start) → Words s.args.self
-words s = record { a = search rules; b = search rules; c = search rules; d = search rules }
-
 to-i32-requires : tie.Need-to_i32-requires
 to-i32-requires c κs = search rules
 
@@ -41,10 +38,9 @@ enum_told c = search rules
 returns : tie.Need-returns-in_default
 unfolding narrowed
 returns c =
-    let n = c in
-    let s = n.before.before in
-    let w = s.args.self in
-    rw (said w.a _ N.TooWide (words s.before).a n.to_i32.ensures c.in_default.is) refl
+    let w = c.args.self in
+    let ws : Words w = record { a = search rules; b = search rules; c = search rules; d = search rules } in
+    rw (said w.a _ N.TooWide ws.a c.to_i32.ensures c.in_default.is) refl
 
 to-i32-requires-2 : tie.Need-to_i32-requires-2
 to-i32-requires-2 c κs = search rules
@@ -58,13 +54,11 @@ enum-told-2 c = search rules
 returns-2 : tie.Need-returns-in_default-to_i32
 unfolding narrowed
 returns-2 c =
-    let n = c in
-    let a = n in
-    let s = a.before.before.before.before in
-    let w = s.args.self in
+    let w = c.args.self in
+    let ws : Words w = record { a = search rules; b = search rules; c = search rules; d = search rules } in
     rw (
-      fits w.a _ _ (words s.before.before).a a.to_i32.ensures a.in-Fits.is,
-      said w.b _ N.TooWide (words s).b-1 n.to_i32-2.ensures c.in_default-to_i32.is,
+      fits w.a _ _ ws.a c.to_i32.ensures c.in-Fits.is,
+      said w.b _ N.TooWide ws.b c.to_i32-2.ensures c.in_default-to_i32.is,
     )
     refl
 
@@ -80,15 +74,12 @@ enum-told-3 c = search rules
 returns-3 : tie.Need-returns-in_default-to_i32-2
 unfolding narrowed
 returns-3 c =
-    let n = c in
-    let b = n in
-    let a = b in
-    let s = a.before.before.before.before in
-    let w = s.args.self in
+    let w = c.args.self in
+    let ws : Words w = record { a = search rules; b = search rules; c = search rules; d = search rules } in
     rw (
-      fits w.a _ _ (words s.before.before.before.before.before).a-1 a.to_i32.ensures a.in-Fits.is,
-      fits w.b-1 _ _ (words s).b-1 b.to_i32-2.ensures b.in-Fits-to_i32.is,
-      said w.c-1 _ N.TooWide (words s).c-1 n.to_i32-3.ensures c.in_default-to_i32-2.is,
+      fits w.a _ _ ws.a c.to_i32.ensures c.in-Fits.is,
+      fits w.b _ _ ws.b c.to_i32-2.ensures c.in-Fits-to_i32.is,
+      said w.c _ N.TooWide ws.c c.to_i32-3.ensures c.in_default-to_i32-2.is,
     )
     refl
 
@@ -104,34 +95,26 @@ enum-told-4 c = search rules
 returns-4 : tie.Need-returns-in_default-to_i32-3
 unfolding narrowed
 returns-4 c =
-    let n = c in
-    let k = n in
-    let b = k in
-    let a = b in
-    let s = a.before.before.before.before in
-    let w = s.args.self in
+    let w = c.args.self in
+    let ws : Words w = record { a = search rules; b = search rules; c = search rules; d = search rules } in
     rw (
-      fits w.a _ _ (words s.before.before.before.before.before.before.before.before.before.before).a-1 a.to_i32.ensures a.in-Fits.is,
-      fits w.b-1 _ _ (words s).b-1 b.to_i32-2.ensures b.in-Fits-to_i32.is,
-      fits w.c-1 _ _ (words s).c-1 k.to_i32-3.ensures k.in-Fits-to_i32-2.is,
-      said w.d-1 _ N.TooWide (words s).d-1 n.to_i32-4.ensures c.in_default-to_i32-3.is,
+      fits w.a _ _ ws.a c.to_i32.ensures c.in-Fits.is,
+      fits w.b _ _ ws.b c.to_i32-2.ensures c.in-Fits-to_i32.is,
+      fits w.c _ _ ws.c c.to_i32-3.ensures c.in-Fits-to_i32-2.is,
+      said w.d _ N.TooWide ws.d c.to_i32-4.ensures c.in_default-to_i32-3.is,
     )
     refl
 
 returns-5 : tie.Need-returns
 unfolding narrowed
 returns-5 c =
-    let d = c in
-    let k = d in
-    let b = k in
-    let a = b in
-    let s = a.before.before.before.before in
-    let w = s.args.self in
+    let w = c.args.self in
+    let ws : Words w = record { a = search rules; b = search rules; c = search rules; d = search rules } in
     rw (
-      fits w.a _ _ (words s.before.before.before.before.before.before.before.before.before.before).a-1 a.to_i32.ensures a.in-Fits.is,
-      fits w.b-1 _ _ (words s).b-1 b.to_i32-2.ensures b.in-Fits-to_i32.is,
-      fits w.c-1 _ _ (words s).c-1 k.to_i32-3.ensures k.in-Fits-to_i32-2.is,
-      fits w.d-1 _ _ (words s).d-1 d.to_i32-4.ensures d.in-Fits-to_i32-3.is,
+      fits w.a _ _ ws.a c.to_i32.ensures c.in-Fits.is,
+      fits w.b _ _ ws.b c.to_i32-2.ensures c.in-Fits-to_i32.is,
+      fits w.c _ _ ws.c c.to_i32-3.ensures c.in-Fits-to_i32-2.is,
+      fits w.d _ _ ws.d c.to_i32-4.ensures c.in-Fits-to_i32-3.is,
     )
     refl
 

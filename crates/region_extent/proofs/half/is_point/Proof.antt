@@ -12,7 +12,7 @@ touches-requires c κs = search rules
 -- the fields
 module _ (c : tie.After-touches) where
   abbrev s : Slice
-  s = c.before.before.before.before.args.s
+  s = c.args.s
 
   x_fits : SFits w16 s.zx
   x_fits = search rules
@@ -26,5 +26,5 @@ module _ (c : tie.After-touches) where
 returns : tie.Need-returns
 returns c = rw (to_z-of_z (x_fits c), to_z-of_z (y-fits c), to_z-of_z (w_fits c)) at c.touches.ensures
 
-pub is-point-spec : {M : Type 1} → statement M
-is-point-spec = tie.close (tie.spec touches-requires returns)
+pub is_point_spec : {M : Type 1} → statement M
+is_point_spec = tie.close (tie.spec touches-requires returns)

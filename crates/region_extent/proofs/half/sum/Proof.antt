@@ -17,26 +17,26 @@ use borrow.Author.Rules.{rules}
 use Rattle.region_extent.proofs.half.sum.Statement.{statement}
 use Rattle.region_extent.proofs.half.sum.Tie as tie
 
-along-requires : tie.Need-along-requires
+along-requires : tie.Need-along-a-requires
 along-requires c κs = search rules
 
-along-requires-2 : tie.Need-along-requires-2
+along-requires-2 : tie.Need-along-b-requires
 along-requires-2 c κs = search rules
 
-is-short-requires : tie.Need-is-short-requires
+is-short-requires : tie.Need-is_short-requires
 is-short-requires c κs = search rules
 
-returns : tie.Need-returns
+returns : tie.Need-returns-then-not-is_short
 returns c = search rules
 
-is-short-requires-2 : tie.Need-is-short-requires-2
+is-short-requires-2 : tie.Need-is_short-requires-2
 is-short-requires-2 c κs = search rules
 
-returns-2 : tie.Need-returns-2
+returns-2 : tie.Need-returns-then-not-is_short-2
 returns-2 c = search rules
 
 -- q (u, v) + p z
-module _ (c : tie.Else2) where
+module _ (c : tie.Else-not-is_short-2) where
   abbrev start : tie.Start
   start = c.before.before.before.before.before.before.before.before
 
@@ -50,71 +50,71 @@ module _ (c : tie.Else2) where
   b = pos start.args.q *ℤ start.args.v +ℤ pos start.args.p *ℤ s.zy
 
   limits : SliceLimits s
-  limits = slice-limits s start.pre.0
+  limits = slice-limits s start.requires.0
 
-  a-is : to_z w64 (of_z w64 c.before.before.before.before.before.before.along.result) ≡ a
+  a-is : to_z w64 (of_z w64 c.along-a.result) ≡ a
   a-is =
       let h : SFits w16 s.zx = search rules in
-      let k = c.before.before.before.before.before.before.along in
-      back w64 k.type-inv ∙ (rw (to_z-of_z start.fits.u, to_z-of_z h) at k.ensures)
+      let k = c.along-a in
+      back w64 k.type_inv ∙ (rw (to_z-of_z start.ranges.u, to_z-of_z h) at k.ensures)
 
-  b-is : to_z w64 (of_z w64 c.before.before.before.before.along2.result) ≡ b
+  b-is : to_z w64 (of_z w64 c.along-b.result) ≡ b
   b-is =
       let h : SFits w16 s.zy = search rules in
-      let k = c.before.before.before.before.along2 in
-      back w64 k.type-inv ∙ (rw (to_z-of_z start.fits.v, to_z-of_z h) at k.ensures)
+      let k = c.along-b in
+      back w64 k.type_inv ∙ (rw (to_z-of_z start.ranges.v, to_z-of_z h) at k.ensures)
 
-length-requires : tie.Need-length-requires
+length-requires : tie.Need-length-m-requires
 length-requires c κs =
-    let x = c.before.before.before.is-short in
-    let y = c.before.is-short2 in
-    ((limits c).n-high, leb-true _ 5000000 (sym x.ensures ∙ not-false _ c.before.before.if1.false), leb-true _ 5000000 (sym y.ensures ∙ not-false _ c.if2.false))
+    let x = c.is_short in
+    let y = c.is_short-2 in
+    ((limits c).n-high, leb-true _ 5000000 (sym x.ensures ∙ not-false _ c.if-not-is_short.false), leb-true _ 5000000 (sym y.ensures ∙ not-false _ c.if-not-is_short-2.false))
 
-w_fits : (c : tie.Else2) → SFits w32 (s c).w
+w_fits : (c : tie.Else-not-is_short-2) → SFits w32 (s c).w
 w_fits c = search rules
 
 less-requires : tie.Need-less-requires
-less-requires c κs = let k = c.before.before in (c.before.length.ensures.size, (start k).requires.1, rw (to_z-of_z (w_fits k)) (limits k).w-size)
+less-requires c κs = let k = c.before.before in (c.length-m.ensures.size, (start k).requires.1, rw (to_z-of_z (w_fits k)) (limits k).w-size)
 
 -- m − p w
 module _ (c : tie.After-less) where
-  abbrev parts : tie.Else2
+  abbrev parts : tie.Else-not-is_short-2
   parts = c.before.before.before
 
   abbrev e : ℤ
-  e = pos c.before.before.length.result -ℤ pos (start parts).args.p *ℤ (s parts).w
+  e = pos c.length-m.result -ℤ pos (start parts).args.p *ℤ (s parts).w
 
   e-is : to_z w64 (of_z w64 c.less.result) ≡ e
-  e-is = back w64 c.less.type-inv ∙ (rw (to_z-of_z (w_fits parts)) at c.less.ensures)
+  e-is = back w64 c.less.type_inv ∙ (rw (to_z-of_z (w_fits parts)) at c.less.ensures)
 
   e-size : nat_abs e ≤ 2 ^ 62
   e-size =
-      let m = c.before.before.length in
+      let m = c.length-m in
       let p = (start parts).args.p in
-      omega (arith, m.ensures.size, size-- (pos m.result) (pos p *ℤ (s parts).w), size-*≤ (pos p) (s parts).w (2 ^ 41) 1000000 (start parts).pre.1 (limits parts).w-size)
+      omega (arith, m.ensures.size, size-- (pos m.result) (pos p *ℤ (s parts).w), size-*≤ (pos p) (s parts).w (2 ^ 41) 1000000 (start parts).requires.1 (limits parts).w-size)
 
-  long : Length (s parts).n (a parts) (b parts) c.before.before.length.result
-  long = rw (a-is parts, b-is parts) at c.before.before.length.ensures
+  long : Length (s parts).n (a parts) (b parts) c.length-m.result
+  long = rw (a-is parts, b-is parts) at c.length-m.ensures
 
-quotient-requires : tie.Need-quotient-requires
-quotient-requires c κs = (rw (e-is c) (e-size c), (start (parts c)).pre.2, omega (arith, (start (parts c)).pre.3))
+quotient-requires : tie.Need-quotient-h-requires
+quotient-requires c κs = (rw (e-is c) (e-size c), (start (parts c)).requires.2, omega (arith, (start (parts c)).requires.3))
 
-returns-3 : tie.Need-returns-3
+returns-3 : tie.Need-returns-then-h-d
 returns-3 c =
-    let q = c.before in
+    let q = c in
     let k = q.before in
-    let i = start (parts k) in
-    let t = rw (e-is k) at q.quotient.ensures in
-    let r = back w64 {z = q.quotient.result} q.quotient.type-inv in
-    let h = q.quotient.result in
-    let l = ≺→≼ h i.args.d (lt_z_true h i.args.d (rw (r, to_z-of_z i.fits.d) at c.if3.true)) in
-    rw r (sum-bounds (s (parts k)) i.args.u i.args.v i.args.d h k.before.before.length.result i.args.p i.args.q i.pre.2 (long k) t l i.pre.4)
+    let i = start (parts k.before) in
+    let t = rw (e-is k.before) at q.quotient-h.ensures in
+    let r = back w64 {z = q.quotient-h.result} q.quotient-h.type_inv in
+    let h = q.quotient-h.result in
+    let l = ≺→≼ h i.args.d (lt_z_true h i.args.d (rw (r, to_z-of_z i.ranges.d) at c.if-h-d.true)) in
+    rw r (sum-bounds (s (parts k.before)) i.args.u i.args.v i.args.d h k.length-m.result i.args.p i.args.q i.requires.2 (long k.before) t l i.requires.4)
 
-returns-4 : tie.Need-returns-4
+returns-4 : tie.Need-returns-else-h-d
 returns-4 c = search rules
 
-pub sum-spec : {M : Type 1} → statement M
-sum-spec =
+pub sum_spec : {M : Type 1} → statement M
+sum_spec =
     tie.close
     (tie.spec
     along-requires
