@@ -1,4 +1,3 @@
--- Proved, and not to be read to believe it: nothing that a contract, or a claim of docs/PROOF.md, is stated with is defined in these files.
-pub mod Agree
+-- What the lemmas of proofs/lemmas are stated with: nothing that a contract is stated with is defined in these files.
 pub mod First
 pub mod Refused

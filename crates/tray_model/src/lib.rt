@@ -1,3 +1,2 @@
 // The model of a session of trays and its theorems: SPEC, "Trays". There is no function here.
 #![tactic(auto)]
-

@@ -1,10 +1,11 @@
 -- The answers to a list of calls are what the rules give.
 -- Assumes nothing.
-use Rattle.std.specs.Prelude.{◌≡◌, refl, false, List, [], ◌∷◌, ℕ, zero, suc, ◌+◌, ◌-◌, ◌≤◌, min, ℤ, length, take, drop}
+use Rattle.std.specs.Prelude.{◌≡◌, refl, List, [], ◌∷◌, ℕ, zero, suc, ◌+◌, ◌-◌, ◌≤◌, min, ℤ, length, take, drop}
 use Rattle.std.proofs.Common.{sym, ap, ap₂, ◌∙◌, arith, length-take, length-drop, drop-drop}
 use Rattle.std.proofs.Math.Option as O
 use Rattle.std.proofs.Math.Nat.{zero-min, min-zero, suc-min-suc}
-use Rattle.ranks.specs.Rest.{rest, Place, at, ended, is_ended, is_nil, place_of, ended-nil, left_at, left-place}
+use Rattle.ranks.specs.Rest.{rest, Place, at, ended, is_ended, is_nil, place_of, left_at}
+use Rattle.ranks.proofs.Rest.{ended-nil, left-place}
 use Rattle.tray_model.specs.Session.{World, Taking, refuse, accept, Call, taking, handOut, rewind, clear, full, space, Session, early, walking, Outcome, begun, given, step, answers}
 use Rattle.tray_model.specs.Rules.{is_zero, Known, Ruling, begin, fresh, take_rule, deal, rule, ruled}
 

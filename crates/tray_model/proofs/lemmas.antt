@@ -1,0 +1,3 @@
+pub mod Agree
+pub mod First
+pub mod Refused
