@@ -5,7 +5,8 @@ use Rattle.ring.specs.declared.Point.{Point}
 use Rattle.ring.specs.RootTwo.{◌⊞◌, ◌⊠◌, num}
 use Rattle.ring.specs.RootTwo.Power.{√2^}
 use Rattle.ranks.specs.Rank.{top}
-use Rattle.ranks.specs.Members.{Rising, rest-rising}
+use Rattle.ranks.specs.Members.{Rising}
+use Rattle.ranks.proofs.Members.{rest-rising}
 use Rattle.ring_points.specs.Digits.{span}
 use Rattle.ring_points.specs.Points.{Fits32, point_of, rank_of, PointBefore, point-order}
 use Rattle.ring_points.specs.Listed.{Listed, passing-holds, all_hold, all-unique, all-empty}

@@ -6,9 +6,11 @@ use Rattle.std.proofs.Math.Bool.{not}
 use mathlib.Core.List.{List, [], ◌∷◌}
 use Rattle.std.proofs.Math.Nat.{min-le_left}
 use Rattle.std.proofs.Math.ListN.{length, take, length-take}
-use Rattle.ranks.specs.Rest.{at, ended, is_nil, rest, left_at, left-place}
+use Rattle.ranks.specs.Rest.{at, ended, is_nil, rest, left_at}
+use Rattle.ranks.proofs.Rest.{left-place}
 use Rattle.ranks.specs.Rank.{top}
-use Rattle.ranks.specs.Handed.{put, take_put}
+use Rattle.ranks.specs.Handed.{put}
+use Rattle.ranks.proofs.Handed.{take_put}
 use Rattle.cuts.specs.Digits.{span}
 use Rattle.walk_list.specs.Walk.{listed_at, numbers_in}
 use Rattle.session_model.specs.Session.{handOut, refused, taken, handed, done, says, best, early, walking, step}

@@ -2,7 +2,8 @@
 use Rattle.std.specs.Prelude.{◌≡◌, refl, Bool, true, false, not, List, [], ◌∷◌, ℕ, ◌+◌, ◌*◌, ◌/◌, ◌%◌, ◌^◌, ◌≤◌, ◌<◌, ℤ, length, take, drop}
 use Rattle.std.proofs.Common.{sym, ap, subst, ◌∙◌, div-add-mod', arith, lit≤, length-append, take-append-drop}
 use Rattle.std.proofs.Math.Nat.{mul-add-div_right, mul-add-mod_self_right, mod-add-mod}
-use Rattle.ranks.specs.Rest.{at, ended, is_nil, rest, left-place}
+use Rattle.ranks.specs.Rest.{at, ended, is_nil, rest}
+use Rattle.ranks.proofs.Rest.{left-place}
 use Rattle.ranks.specs.Rank.{top}
 use Rattle.cuts.specs.Digits.{span}
 use Rattle.walk_list.specs.Walk.{listed_at}

@@ -3,9 +3,11 @@ use Rattle.std.specs.Prelude.{◌≡◌, refl, List, [], ◌∷◌, ◌++◌, �
 use Rattle.std.proofs.Common.{sym, ap, ap₂, ◌∙◌, append_assoc, arith}
 use Rattle.integers.specs.Difference.{◌≼◌, ◌≺◌, up, dn, ext, +-spec, neg_up, neg_dn, ≤→ℕ, <→ℕ, ℕ→≤}
 use Rattle.region.specs.declared.Job.{Job}
-use Rattle.ranks.specs.Rest.{rest, rest-induct}
+use Rattle.ranks.specs.Rest.{rest}
+use Rattle.ranks.proofs.Rest.{rest-induct}
 use Rattle.ranks.specs.Members.{Rising}
-use Rattle.ranks.specs.Rank.{rank, top, rank-zero}
+use Rattle.ranks.specs.Rank.{rank, top}
+use Rattle.ranks.proofs.Rank.{rank-zero}
 use Rattle.ranks.specs.Digits.{pair-from}
 use Rattle.ranks.specs.Handed.{flat}
 use Rattle.ring_points.specs.Digits.{span, span-is}

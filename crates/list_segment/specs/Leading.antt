@@ -2,7 +2,8 @@
 use Rattle.std.specs.Prelude.{◌≡◌, refl, Bool, true, false, cond, List, [], ◌∷◌, ◌++◌, map, ℕ, suc, ◌≤◌, ◌<◌, ltb, length, take}
 use Rattle.std.proofs.Common.{sym, ap, ◌∙◌, arith, lt-ltb, le-ltb}
 use Rattle.std.proofs.Math.Decide.{dec_lt}
-use Rattle.ranks.specs.Rest.{rest, rest-hit, rest-miss, rest_over, rest-induct}
+use Rattle.ranks.specs.Rest.{rest}
+use Rattle.ranks.proofs.Rest.{rest-hit, rest-miss, rest_over, rest-induct}
 
 -- up to the first that fails
 abbrev pub leading : {A : Type 0} → (A → Bool) → List A → List A

@@ -5,9 +5,11 @@ use Rattle.std.specs.Int.Signed.{le_z}
 use Rattle.std.specs.Int.{w32}
 use Rattle.ring.specs.declared.Point.{Point}
 use Rattle.region.specs.declared.Job.{Job}
-use Rattle.ranks.specs.Rest.{rest, Place, at, ended, place_of, left_at, left-place, next-drop}
+use Rattle.ranks.specs.Rest.{rest, Place, at, ended, place_of, left_at}
+use Rattle.ranks.proofs.Rest.{left-place, next-drop}
 use Rattle.ranks.specs.Rank.{top}
-use Rattle.ranks.specs.Handed.{flat, flat_append, take_put, length-flat, Gave}
+use Rattle.ranks.specs.Handed.{flat, Gave}
+use Rattle.ranks.proofs.Handed.{flat_append, take_put, length-flat}
 use Rattle.ring_points.specs.Digits.{span}
 use Rattle.ring_points.specs.Slices.{points_of, flat-points}
 use Rattle.walk_list.specs.Walk.{listed_at, point_of, rank_of, numbers_in, full}

@@ -11,7 +11,7 @@ use Rattle.ring.specs.Point.Divide.{divide_root2, halves, divide_whole}
 use Rattle.ring.specs.Point.Exponent.{exponent_of, exponent_zero, exponent_not, pulse_count}
 use Rattle.ranks.specs.Rest.{is_nil}
 use Rattle.ranks.specs.Rank.{top}
-use Rattle.ranks.specs.Members.{rest-sound}
+use Rattle.ranks.proofs.Members.{rest-sound}
 use Rattle.ring_points.specs.Digits.{span}
 use Rattle.ring_points.specs.Points.{Fits32, point_of}
 use Rattle.ring_points.specs.Listed.{passing, all_hold}

@@ -26,7 +26,8 @@ use Rattle.record_kinds.specs.declared.Refusal.TheVariants.{NoPattern}
 use Rattle.session_model.specs.Session.{whole, shortest, refused}
 use Rattle.session_model.specs.Session as Model
 use Rattle.session_model.specs.Rules.{begin, known_after}
-use Rattle.session_model.specs.lemmas.Agree.{job_of, whole-job}
+use Rattle.session_model.specs.lemmas.Agree.{job_of}
+use Rattle.session_model.proofs.lemmas.Agree.{whole-job}
 use Rattle.session_stages.specs.declared.Course.{Course}
 use Rattle.session_stages.specs.declared.Stage.{Stage}
 use Rattle.session_stages.specs.declared.Stage.TheVariants as S

@@ -4,7 +4,8 @@ use mathlib.Core.List.{List, [], ◌∷◌, ◌++◌, map, Memᴰ}
 use Rattle.std.proofs.Common.{arith}
 use Rattle.ring.specs.declared.Point.{Point}
 use Rattle.ranks.specs.Rest.{rest}
-use Rattle.ranks.specs.Members.{Rising, rest-sound}
+use Rattle.ranks.specs.Members.{Rising}
+use Rattle.ranks.proofs.Members.{rest-sound}
 use Rattle.ring_points.specs.Points.{Fits32, point_of, rank-point, PointBefore, point-order}
 
 -- point order: a first, then b, c, d, as signed numbers: each point comes before all that follow it, so none comes twice

@@ -7,7 +7,8 @@ use mathlib.Core.List.{List, [], ◌∷◌, map, Memᴰ}
 use Rattle.ring.specs.declared.Point.{Point}
 use Rattle.ranks.specs.Rest.{rest}
 use Rattle.ranks.specs.Rank.{top}
-use Rattle.ranks.specs.Members.{Rising, rest-sound, rest-complete, rest-unique}
+use Rattle.ranks.specs.Members.{Rising}
+use Rattle.ranks.proofs.Members.{rest-sound, rest-complete, rest-unique}
 use Rattle.ring_points.specs.Digits.{span}
 use Rattle.ring_points.specs.Points.{Fits32, point_of, rank_of, rank-point, point-rank, rank_of_below}
 

@@ -8,7 +8,8 @@ use Rattle.std.specs.Int.{w32}
 use Rattle.integers.specs.Difference.{◌≺◌, <→ℕ, ℕ→<}
 use Rattle.ring.specs.declared.Point.{Point}
 use Rattle.ranks.specs.Digits.{pair}
-use Rattle.ranks.specs.Rank.{Before, byA, byB, byC, byD, rank, top, digit_a, digit_b, digit_c, digit_d, rank-A, rank-B, rank-C, rank-D, rank-digits, rank_below, rank-before, before-rank}
+use Rattle.ranks.specs.Rank.{Before, byA, byB, byC, byD, rank, top, digit_a, digit_b, digit_c, digit_d}
+use Rattle.ranks.proofs.Rank.{rank-A, rank-B, rank-C, rank-D, rank-digits, rank_below, rank-before, before-rank}
 use Rattle.ring_points.specs.Digits.{span, coordinate, digit, span-is, coordinate-digit, digit-coordinate, digit-below, whole}
 
 -- the point of a rank, and the rank of a point, to the base 2^32

@@ -9,7 +9,8 @@ use Rattle.session_model.specs.Session.{Call, handOut, step, answers, after, is_
 use Rattle.session_model.specs.Session as Model
 use Rattle.session_model.specs.Rules.{verdict, verdicts, begin}
 use Rattle.session_model.specs.Since.{since_after, since, points, spaces, full_of}
-use Rattle.session_model.specs.lemmas.Refused.{unrefused, granted, refused_same, refused_lent}
+use Rattle.session_model.specs.lemmas.Refused.{unrefused, granted}
+use Rattle.session_model.proofs.lemmas.Refused.{refused_same, refused_lent}
 use Rattle.session_model.specs.Operators.{struck, is_hand_out, is_independent, picked}
 use Rattle.record_kinds.specs.declared.Refusal.{Refusal}
 use Rattle.session_stages.specs.declared.Session.{Session}

@@ -20,9 +20,11 @@ use Rattle.operator.specs.declared.Operator.{Operator}
 use Rattle.session_model.specs.Session.{whole, plain, early, walking}
 use Rattle.session_model.specs.Session as Model
 use Rattle.session_model.specs.Rules.{begin, known_after}
-use Rattle.session_model.specs.lemmas.Agree.{job_of, whole-job}
+use Rattle.session_model.specs.lemmas.Agree.{job_of}
+use Rattle.session_model.proofs.lemmas.Agree.{whole-job}
 use Rattle.session_model.specs.Since.{points, spaces, full_of}
-use Rattle.session_model.specs.End.{reported, finished-all}
+use Rattle.session_model.specs.End.{reported}
+use Rattle.session_model.proofs.End.{finished-all}
 use Rattle.session_stages.specs.declared.Course.{Course}
 use Rattle.session_stages.specs.declared.Stage.{Stage}
 use Rattle.session_stages.specs.declared.Stage.TheVariants as S

@@ -3,7 +3,7 @@ use Rattle.std.specs.Prelude.{◌≡◌, Bool, true, ◌&&◌, eqb}
 use Rattle.std.proofs.Common.{eqb-true}
 use Rattle.integers.specs.lemmas.Booleans.{both_true}
 use Rattle.ring.specs.declared.Point.{Point}
-use Rattle.ranks.specs.Rank.{rank-zero}
+use Rattle.ranks.proofs.Rank.{rank-zero}
 use Rattle.cuts.specs.Digits.{span, digit}
 use Rattle.walk_list.specs.Walk.{rank_of}
 

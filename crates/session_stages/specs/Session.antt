@@ -11,7 +11,8 @@ use Rattle.record.specs.declared.Reading as D
 use Rattle.record.specs.declared.Reading.TheVariants as RV
 use Rattle.record_kinds.specs.Kinds.{number}
 use Rattle.record.specs.Record.{reading_of}
-use Rattle.ranks.specs.Rest.{is_ended, ended-nil, left_at}
+use Rattle.ranks.specs.Rest.{is_ended, left_at}
+use Rattle.ranks.proofs.Rest.{ended-nil}
 use Rattle.ranks.specs.Rank.{top}
 use Rattle.ranks.specs.Handed.{Gave}
 use Rattle.walk_list.specs.declared.Spot.{Spot}

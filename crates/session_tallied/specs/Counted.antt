@@ -15,7 +15,8 @@ use Rattle.operator.specs.declared.Operator.{Operator}
 use Rattle.operator.specs.Operator.{identity}
 use Rattle.ranks.specs.Rest.{Place, at, ended, rest}
 use Rattle.ranks.specs.Rank.{top}
-use Rattle.ranks.specs.Handed.{flat, flat_append, put, take_put, length-flat}
+use Rattle.ranks.specs.Handed.{flat, put}
+use Rattle.ranks.proofs.Handed.{flat_append, take_put, length-flat}
 use Rattle.cuts.specs.Digits.{span}
 use Rattle.walk_list.specs.Walk.{point_of, listed_at, numbers_in, full}
 use Rattle.walk_list.specs.lemmas.Count.{full-fewer}
@@ -23,7 +24,7 @@ use Rattle.session_model.specs.Session.{Reading, refuse, accept, Stage, part, wh
 use Rattle.session_model.specs.Session.{refused, taken, handed, done, says, best, early, walking, joined, remembered, given, found, step}
 use Rattle.session_model.specs.Session as Model
 use Rattle.session_model.specs.Since.{Exchange, restarts, since_after, written, points, full_of}
-use Rattle.session_model.specs.lemmas.First.{points-more}
+use Rattle.session_model.proofs.lemmas.First.{points-more}
 use Rattle.ring_points.specs.Ascending.{Passing, passing-append, rest-passing}
 use Rattle.ring_points.specs.Slices.{points_of, flat-points, map-points, length-points}
 use Rattle.integers_wide.specs.declared.Size.{Size}

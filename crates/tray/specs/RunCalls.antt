@@ -16,7 +16,8 @@ use Rattle.region.specs.Selection.{listed}
 use Rattle.tray_model.specs.Session.{Call, handOut, step, answers, after, early, walking, is_refused}
 use Rattle.tray_model.specs.Session as Model
 use Rattle.tray_model.specs.Since.{Exchange, exchanges, since_after, since, points, spaces, full_of, numbers}
-use Rattle.tray_model.specs.lemmas.Refused.{unrefused, granted, refused_same, refused_lent}
+use Rattle.tray_model.specs.lemmas.Refused.{unrefused, granted}
+use Rattle.tray_model.proofs.lemmas.Refused.{refused_same, refused_lent}
 use Rattle.tray_model.specs.End.{reported}
 use Rattle.tray_list.specs.declared.Tray.{Tray}
 use Rattle.tray_list.specs.Tray.{job_at, size, any_at, five_of, full}

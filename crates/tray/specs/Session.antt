@@ -2,7 +2,8 @@
 use Rattle.std.specs.Prelude.{◌≡◌, refl, Bool, List, [], ℕ, ◌/◌, ℤ, length, drop}
 use Rattle.std.proofs.Common.{sym, ap, ◌∙◌}
 use Rattle.ring.specs.declared.Point.{Point}
-use Rattle.ranks.specs.Rest.{at, is_ended, ended-nil, left_at}
+use Rattle.ranks.specs.Rest.{at, is_ended, left_at}
+use Rattle.ranks.proofs.Rest.{ended-nil}
 use Rattle.ranks.specs.Rank.{top}
 use Rattle.ranks.specs.Handed.{Gave}
 use Rattle.walk_list.specs.declared.Spot.{Spot}

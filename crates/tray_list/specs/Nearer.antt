@@ -3,7 +3,8 @@
 use Rattle.std.specs.Prelude.{◌≡◌, refl, Bool, true, false, ◌||◌, List, [], ◌∷◌, ℕ, suc, ◌≤◌, ◌<◌, min, eqb}
 use Rattle.std.proofs.Common.{sym, ap, ap₂, ◌∙◌, arith, eq-eqb, ne_eqb}
 use Rattle.std.proofs.Math.Nat.{min-eq_left, min-eq_right}
-use Rattle.ranks.specs.Rest.{rest, Place, at, ended, place_of, rest-hit, rest-miss, rest_over, rest-induct, View, view, nothing, least}
+use Rattle.ranks.specs.Rest.{rest, Place, at, ended, place_of}
+use Rattle.ranks.proofs.Rest.{rest-hit, rest-miss, rest_over, rest-induct, View, view, nothing, least}
 
 -- the nearer of two places
 abbrev pub nearer : Place → Place → Place

@@ -3,7 +3,8 @@ use Rattle.std.specs.Prelude.{◌≡◌, refl, Bool, true, false, cond, List, []
 use Rattle.std.proofs.Common.{sym, ap, ◌∙◌}
 use Rattle.std.proofs.lemmas.Bool.{false≢true}
 use Rattle.ranks.specs.Handed.{flat}
-use Rattle.ranks.specs.Rest.{rest, rest-hit, rest-miss, rest_over, rest-induct}
+use Rattle.ranks.specs.Rest.{rest}
+use Rattle.ranks.proofs.Rest.{rest-hit, rest-miss, rest_over, rest-induct}
 use Rattle.ranks.specs.Rank.{top}
 use Rattle.cuts.specs.Digits.{span}
 use Rattle.walk_list.specs.Walk as One

@@ -5,7 +5,7 @@ use Rattle.std.proofs.Common.{ap₂, ◌∙◌}
 use Rattle.ring.specs.declared.Point.{Point}
 use Rattle.ranks.specs.Rest.{rest}
 use Rattle.ranks.specs.Rank.{top}
-use Rattle.ranks.specs.Members.{rest-sound}
+use Rattle.ranks.proofs.Members.{rest-sound}
 use Rattle.ranks.specs.Handed.{flat}
 use Rattle.ring_points.specs.Ascending.{Passing, passing}
 use Rattle.cuts.specs.Digits.{span}

@@ -7,7 +7,8 @@ use Rattle.std.proofs.Math.ListN.{get_or-append}
 use Rattle.std.proofs.Math.Seq.{drop-nil}
 use Rattle.ring.specs.declared.Point.{Point}
 use Rattle.region.specs.declared.Job.{Job}
-use Rattle.ranks.specs.Rest.{Place, at, ended, place_of, left_at, left-place}
+use Rattle.ranks.specs.Rest.{Place, at, ended, place_of, left_at}
+use Rattle.ranks.proofs.Rest.{left-place}
 use Rattle.ranks.specs.Rank.{top}
 use Rattle.ranks.specs.Handed.{Gave, flat}
 use Rattle.ring_points.specs.Points.{rank-point}

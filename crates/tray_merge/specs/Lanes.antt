@@ -9,9 +9,10 @@ use Rattle.std.proofs.Math.Seq.{drop-nil}
 use Rattle.ring.specs.declared.Point.{Point}
 use Rattle.region.specs.declared.Job.{Job}
 use Rattle.region.specs.declared.Region.TheVariants as Shape
-use Rattle.ranks.specs.Rest.{Place, at, ended, place_of, left_at, rest, rest-hit, rest-miss, rest-skip, next-drop, next-below}
+use Rattle.ranks.specs.Rest.{Place, at, ended, place_of, left_at, rest}
+use Rattle.ranks.proofs.Rest.{rest-hit, rest-miss, rest-skip, next-drop, next-below}
 use Rattle.ranks.specs.Rank.{top}
-use Rattle.ranks.specs.Members.{rest-sound, rest-complete}
+use Rattle.ranks.proofs.Members.{rest-sound, rest-complete}
 use Rattle.cuts.specs.Digits.{span}
 use Rattle.walk_list.specs.declared.Spot.{Spot}
 use Rattle.walk_list.specs.declared.Spot.TheVariants as S

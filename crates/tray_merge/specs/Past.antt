@@ -6,7 +6,8 @@ use Rattle.std.proofs.Math.Logic.{inl, inr}
 use Prim.Native.Nat.{ℕ, zero, suc, ◌≤◌, ◌<◌, min}
 use Rattle.std.proofs.Math.Nat.{min-eq_left, min-eq_right}
 use Rattle.std.proofs.Math.Decide.{dec_lt}
-use Rattle.ranks.specs.Rest.{Place, at, ended, place_of, left_at, rest, View, view, nothing, least}
+use Rattle.ranks.specs.Rest.{Place, at, ended, place_of, left_at, rest}
+use Rattle.ranks.proofs.Rest.{View, view, nothing, least}
 use Rattle.tray_list.specs.Nearer.{nearer, is_at}
 
 -- a place behind another, or at the end

@@ -15,7 +15,7 @@ use Rattle.ring.specs.RootTwo.Power.{√2^}
 use Rattle.ring.specs.Point.{conjω, √2x, √2y, √2x_conj, √2y_conj}
 use Rattle.ranks.specs.Rest.{is_nil}
 use Rattle.ranks.specs.Rank.{top}
-use Rattle.ranks.specs.Members.{rest-sound}
+use Rattle.ranks.proofs.Members.{rest-sound}
 use Rattle.ring_points.specs.Digits.{span}
 use Rattle.ring_points.specs.Points.{point_of}
 use Rattle.entry_equation.specs.Equation.{completes, top_scale}

@@ -8,7 +8,8 @@ use mathlib.Core.List.{List, [], ◌∷◌, Memᴰ}
 use Prim.Native.Nat.{ℕ, ◌*◌, ◌/◌, ◌%◌, ◌<◌, zero-le}
 use Rattle.std.proofs.Math.Decide.{dec_lt}
 use Rattle.integers.specs.Difference.{by⊖, zz}
-use Rattle.ranks.specs.Members.{Rising, rest-rising, rest-sound, rest-complete}
+use Rattle.ranks.specs.Members.{Rising}
+use Rattle.ranks.proofs.Members.{rest-rising, rest-sound, rest-complete}
 use Rattle.ranks.specs.Digits.{pair, pair-high, pair-low}
 use Rattle.line_steps.specs.declared.Interval.{Interval}
 use Rattle.line.specs.declared.Place.{Place}

@@ -5,10 +5,11 @@ use Rattle.std.proofs.Common.{sym, ◌∙◌, ap, add-zero, arith, leb→le, eqb
 use Rattle.std.specs.Int.Signed.{le_z, le_z_yes}
 use Rattle.integers.specs.lemmas.Booleans.{both_true}
 use Rattle.integers.specs.Difference.{by⊖, zz, ◌≼◌}
-use Rattle.ranks.specs.Rest.{rest, rest-hit, rest-miss, rest_over}
+use Rattle.ranks.specs.Rest.{rest}
+use Rattle.ranks.proofs.Rest.{rest-hit, rest-miss, rest_over}
 use Rattle.ranks.specs.Handed.{flat}
 use Rattle.ranks.specs.Digits.{pair, pair-suc, pair-carry}
-use Rattle.ranks.specs.lemmas.Skip.{by_pair, by_pair-pair, skip_first, skip_second}
+use Rattle.ranks.proofs.lemmas.Skip.{by_pair, by_pair-pair, skip_first, skip_second}
 use Rattle.line_rows.specs.lemmas.Both.{is_false}
 use Rattle.line_steps.specs.declared.Interval.{Interval}
 use Rattle.line.specs.Line.{bound, span, coordinate, pair_of, accepted, full}

@@ -2,7 +2,8 @@
 use Rattle.std.specs.Prelude.{◌≡◌, refl, Bool, true, false, cond, List, [], ◌++◌, ℕ, ◌+◌, ◌/◌, ◌≤◌, ◌<◌, ltb, length, drop}
 use Rattle.std.proofs.Common.{sym, ap, ap₂, subst, ◌∙◌, append-nil, zero-add, arith, le-ltb, lit≤}
 use Rattle.std.proofs.Math.Nat.{le-min}
-use Rattle.ranks.specs.Rest.{at, ended, rest, left-place}
+use Rattle.ranks.specs.Rest.{at, ended, rest}
+use Rattle.ranks.proofs.Rest.{left-place}
 use Rattle.ranks.specs.Rank.{top}
 use Rattle.cuts.specs.Digits.{span}
 use Rattle.walk_list.specs.Walk.{listed_at, full}

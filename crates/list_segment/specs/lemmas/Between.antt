@@ -3,7 +3,8 @@ use Rattle.std.specs.Prelude.{◌≡◌, refl, Bool, true, false, ◌&&◌, List
 use Rattle.std.proofs.Common.{sym, ap, subst, ◌∙◌, arith, lt-ltb, le-ltb, le-leb}
 use Rattle.std.proofs.Math.Decide.{dec_lt}
 use Rattle.std.proofs.lemmas.Bool.{lt-leb}
-use Rattle.ranks.specs.Rest.{rest, rest-hit, rest-miss, rest_over, rest-induct}
+use Rattle.ranks.specs.Rest.{rest}
+use Rattle.ranks.proofs.Rest.{rest-hit, rest-miss, rest_over, rest-induct}
 use Rattle.ranks.specs.Members.{Rising}
 use Rattle.list_segment.specs.Part.{chosen}
 

@@ -6,12 +6,16 @@ use Rattle.walk_list.specs.Walk.{numbers_in}
 use Rattle.session_model.specs.Session.{Call, handOut, step, answers, after}
 use Rattle.session_model.specs.Session as Model
 use Rattle.session_model.specs.Rules.{verdict, verdicts, begin}
-use Rattle.session_model.specs.lemmas.Agree.{whole-list}
+use Rattle.session_model.proofs.lemmas.Agree.{whole-list}
 use Rattle.session_model.specs.Since.{exchanges, since, points, spaces, full_of, remains_after}
-use Rattle.session_model.specs.lemmas.First.{handed-first, handed-count, handed-rising, Reports, end-reported}
-use Rattle.session_model.specs.lemmas.Refused.{NotMade, not_made}
-use Rattle.session_model.specs.Operators.{struck, is_hand_out, is_independent, picked, alike_hand_outs, alike_others}
-use Rattle.session_model.specs.Remembered.{operator_of, last_accepted, last_remembered}
+use Rattle.session_model.specs.lemmas.First.{Reports}
+use Rattle.session_model.proofs.lemmas.First.{handed-first, handed-count, handed-rising, end-reported}
+use Rattle.session_model.specs.lemmas.Refused.{NotMade}
+use Rattle.session_model.proofs.lemmas.Refused.{not_made}
+use Rattle.session_model.specs.Operators.{struck, is_hand_out, is_independent, picked}
+use Rattle.session_model.proofs.Operators.{alike_hand_outs, alike_others}
+use Rattle.session_model.specs.Remembered.{operator_of, last_accepted}
+use Rattle.session_model.proofs.Remembered.{last_remembered}
 use Rattle.operator.specs.Operator.{identity}
 use Rattle.session_stages.specs.World.{world}
 use Rattle.session_stages.specs.Session.{meaning, fresh}

@@ -5,7 +5,8 @@ use Rattle.std.proofs.Common.{sym, ap, ap₂, ◌∙◌}
 use Rattle.std.proofs.lemmas.Bool.{false≢true}
 use Rattle.session_model.specs.Session.{Call, reading, handOut, rewind, clear, plain, image_of, shortest, step, is_refused}
 use Rattle.session_model.specs.Session as Model
-use Rattle.session_model.specs.Operators.{reads_operator, struck, SameButOperator, both-early, both-walking, same, step_both, step-operator, step-answer}
+use Rattle.session_model.specs.Operators.{reads_operator, struck, SameButOperator, both-early, both-walking}
+use Rattle.session_model.proofs.Operators.{same, step_both, step-operator, step-answer}
 use Rattle.session_tally.specs.declared.Tally.{Tally}
 use Rattle.session_tally.specs.Spread.{nothing}
 use Rattle.session_stages.specs.World.{world}

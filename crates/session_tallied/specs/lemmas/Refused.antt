@@ -5,7 +5,8 @@ use Rattle.std.proofs.Common.{sym, ap, ◌∙◌}
 use Rattle.std.proofs.lemmas.Bool.{false≢true}
 use Rattle.session_model.specs.Session.{Call, reading, handOut, rewind, clear, plain, image_of, shortest, refused, taken, handed, done, says, best, step, is_refused}
 use Rattle.session_model.specs.Session as Model
-use Rattle.session_model.specs.lemmas.Refused.{unrefused, refused_same}
+use Rattle.session_model.specs.lemmas.Refused.{unrefused}
+use Rattle.session_model.proofs.lemmas.Refused.{refused_same}
 use Rattle.session_tally.specs.declared.Tally.{Tally}
 use Rattle.session_stages.specs.World.{world}
 use Rattle.session_stages.specs.Session.{meaning, scale_of}

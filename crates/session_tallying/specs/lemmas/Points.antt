@@ -15,7 +15,8 @@ use Rattle.ranks.specs.Rest.{at, ended, is_nil, rest}
 use Rattle.ranks.specs.Rank.{top}
 use Rattle.ring_points.specs.Ascending.{Passing, rest-passing}
 use Rattle.ring_points.specs.Slices.{points_of, flat-points, length-points}
-use Rattle.ranks.specs.Handed.{put, take_put}
+use Rattle.ranks.specs.Handed.{put}
+use Rattle.ranks.proofs.Handed.{take_put}
 use Rattle.cuts.specs.Digits.{span}
 use Rattle.walk_list.specs.Walk.{point_of, listed_at, numbers_in}
 use Rattle.session_model.specs.Session.{handOut, refused, taken, handed, done, says, best, early, walking, step}

@@ -8,11 +8,14 @@ use Rattle.walk_list.specs.Walk as One
 use Rattle.tray_model.specs.Session.{Call, handOut, step, answers, after, early, walking}
 use Rattle.tray_model.specs.Session as Model
 use Rattle.tray_model.specs.Rules.{ruled, begin}
-use Rattle.tray_model.specs.lemmas.Agree.{whole-list}
+use Rattle.tray_model.proofs.lemmas.Agree.{whole-list}
 use Rattle.tray_model.specs.Since.{since, points, spaces, full_of, numbers, remains_after}
-use Rattle.tray_model.specs.lemmas.First.{handed-first, handed-count, handed-rising, Reports, end-reported}
-use Rattle.tray_model.specs.lemmas.Refused.{NotMade, not_made}
-use Rattle.tray_model.specs.End.{reported, Complete, finished-all}
+use Rattle.tray_model.specs.lemmas.First.{Reports}
+use Rattle.tray_model.proofs.lemmas.First.{handed-first, handed-count, handed-rising, end-reported}
+use Rattle.tray_model.specs.lemmas.Refused.{NotMade}
+use Rattle.tray_model.proofs.lemmas.Refused.{not_made}
+use Rattle.tray_model.specs.End.{reported, Complete}
+use Rattle.tray_model.proofs.End.{finished-all}
 use Rattle.tray_list.specs.declared.Tray.{Tray}
 use Rattle.tray_list.specs.Tray.{job_at, size, five_of, full}
 use Rattle.tray_list.specs.Own.{four_of, own-numbers}

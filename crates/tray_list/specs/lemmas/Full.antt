@@ -4,7 +4,8 @@ use Rattle.std.proofs.Common.{ap}
 use Rattle.ring.specs.declared.Point.{Point}
 use Rattle.region.specs.Selection.{listed}
 use Rattle.ranks.specs.Rank.{top}
-use Rattle.ranks.specs.Members.{Rising, rest-rising}
+use Rattle.ranks.specs.Members.{Rising}
+use Rattle.ranks.proofs.Members.{rest-rising}
 use Rattle.ring_points.specs.Points.{Fits32}
 use Rattle.ring_points.specs.Listed.{Listed, all_hold, all-unique}
 use Rattle.cuts.specs.Digits.{span}

@@ -22,9 +22,11 @@ use Rattle.walk_list.specs.declared.Spot.{Spot}
 use Rattle.walk_list.specs.declared.Spot.TheVariants as S
 use Rattle.region.specs.declared.Job.{Job}
 use Rattle.cuts.specs.Digits.{span}
-use Rattle.ranks.specs.Handed.{Dealt, dealt_none, dealt_more, dealt_full, dealt_end}
+use Rattle.ranks.specs.Handed.{Dealt}
+use Rattle.ranks.proofs.Handed.{dealt_none, dealt_more, dealt_full, dealt_end}
 use Rattle.ranks.specs.Rank.{top}
-use Rattle.ranks.specs.Rest.{Place, place_of, left_at, left-found}
+use Rattle.ranks.specs.Rest.{Place, place_of, left_at}
+use Rattle.ranks.proofs.Rest.{left-found}
 use Rattle.tray_merge.proofs.deal.Statement.{statement}
 use Rattle.tray_merge.proofs.deal.Tie as tie
 

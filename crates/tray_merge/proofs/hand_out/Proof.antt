@@ -8,7 +8,8 @@ use Rattle.tray_list.specs.Tray.{any_at, five_of}
 use Rattle.tray_list.specs.declared.Tray.{Tray}
 use Rattle.walk_list.specs.Walk.{spot_of}
 use Rattle.cuts.specs.Digits.{span}
-use Rattle.ranks.specs.Handed.{Gave, dealt_none, dealt_end}
+use Rattle.ranks.specs.Handed.{Gave}
+use Rattle.ranks.proofs.Handed.{dealt_none, dealt_end}
 use Rattle.ranks.specs.Rank.{top}
 use Rattle.ranks.specs.Rest.{left_at, ended}
 use Rattle.tray_merge.proofs.hand_out.Statement.{statement}

@@ -4,7 +4,8 @@ use Rattle.std.proofs.Common.{ap, subst, arith, lit≤}
 use Rattle.region.specs.declared.Job.{Job}
 use Rattle.region.specs.Selection.{listed, listed-solves}
 use Rattle.region.specs.Bound.{solutions_small}
-use Rattle.ranks.specs.Rest.{rest, rest-induct, rest-miss}
+use Rattle.ranks.specs.Rest.{rest}
+use Rattle.ranks.proofs.Rest.{rest-induct, rest-miss}
 use Rattle.ranks.specs.Rank.{rank, top}
 use Rattle.ranks.specs.Digits.{pair}
 use Rattle.ring_points.specs.Digits.{span}

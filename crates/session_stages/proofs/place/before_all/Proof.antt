@@ -1,6 +1,6 @@
 use mathlib.Core.Path.{ap}
 use Rattle.ranks.specs.Rest.{at}
-use Rattle.ranks.specs.Rank.{rank-zero}
+use Rattle.ranks.proofs.Rank.{rank-zero}
 use Rattle.cuts.specs.Digits.{span}
 use Rattle.session_stages.proofs.place.before_all.Statement.{statement}
 use Rattle.session_stages.proofs.place.before_all.Tie as tie
