@@ -5,22 +5,22 @@ use Rattle.pattern_apart.specs.Apart.{disk-accepted, ApartIf, void_apart}
 use Rattle.pattern_apart.proofs.misses_disk.Statement.{statement}
 use Rattle.pattern_apart.proofs.misses_disk.Tie as tie
 
-is-void-requires : tie.Need-is-void-requires
+is-void-requires : tie.Need-is_void-requires
 is-void-requires c κs = search rules
 
-returns : tie.Need-returns
-returns c = void_apart _ _ (sym c.before.is-void.ensures ∙ c.if1.true)
+returns : tie.Need-returns-then-is_void
+returns c = void_apart _ _ (sym c.is_void.ensures ∙ c.if-is_void.true)
 
 disk-requires : tie.Need-disk-requires
 disk-requires c κs = search rules
 
-are-apart-requires : tie.Need-are-apart-requires
-are-apart-requires c κs = (c.before.before.before.requires, ap accepted c.disk.ensures ∙ disk-accepted)
+are-apart-requires : tie.Need-are_apart-requires
+are-apart-requires c κs = (c.requires, ap accepted c.disk.ensures ∙ disk-accepted)
 
-returns-2 : tie.Need-returns-2
+returns-2 : tie.Need-returns
 returns-2 c =
-    let d = c.before in
-    subst (λ s. ApartIf d.before.before.before.args.r s c.are-apart.result) d.disk.ensures c.are-apart.ensures
+    let d = c in
+    subst (λ s. ApartIf d.args.r s c.are_apart.result) d.disk.ensures c.are_apart.ensures
 
-pub misses-disk-spec : {M : Type 1} → statement M
-misses-disk-spec = tie.close (tie.spec is-void-requires returns disk-requires are-apart-requires returns-2)
+pub misses_disk_spec : {M : Type 1} → statement M
+misses_disk_spec = tie.close (tie.spec is-void-requires returns disk-requires are-apart-requires returns-2)

@@ -20,7 +20,7 @@ all l = take_all (length l - 1) (drop 1 l) (le_of_eq (length-drop 1 l))
 
 -- what is known once a reading is admitted or not
 module _ (c : tie.After-admit) where
-  abbrev kept : tie.After-kind-of
+  abbrev kept : tie.After-kind_of-kind
   kept = c.before.before.before.before
 
   abbrev start : tie.Start
@@ -30,72 +30,72 @@ module _ (c : tie.After-admit) where
   list = start.args.bytes.now
 
   abbrev kind : Kind
-  kind = kept.kind-of.result
+  kind = kept.kind_of-kind.result
 
   told : c.admit.result ≡ admission_of (is_known kind) (in_turn kind start.args.turn) (ltb (length list - 1) (body_length kind))
   told = cc
 
   is : reading_of list start.args.turn ≡ admitted c.admit.result (body_of kind (drop 1 list))
-  is = reading_admitted list start.args.turn kind kept.before.before.if1.left kept.kind-of.ensures c.admit.result told
+  is = reading_admitted list start.args.turn kind kept.if-bytes-eq0.false kept.kind_of-kind.ensures c.admit.result told
 
   -- the same at what the match found the admission to be
   found : (a : Admission) → c.admit.result ≡ a → reading_of list start.args.turn ≡ admitted a (body_of kind (drop 1 list))
   found a e = is ∙ ap (λ b. admitted b (body_of kind (drop 1 list))) e
 
-returns : tie.Need-returns
-returns c = reads (sym (reading_none c.before.before.args.bytes.now c.before.before.args.turn c.if1.true))
+returns : tie.Need-returns-then-bytes-eq0
+returns c = reads (sym (reading_none c.args.bytes.now c.args.turn c.if-bytes-eq0.true))
 
-shared-slice-read-kind-of : tie.Need-shared-slice-read-kind-of
+shared-slice-read-kind-of : tie.Need-bounds-bytes-0
 shared-slice-read-kind-of c = search rules
 
-kind-of-requires : tie.Need-kind-of-requires
+kind-of-requires : tie.Need-kind_of-kind-requires
 kind-of-requires c κs = search rules
 
-sub-short : tie.Need-overflow-sub-short
+sub-short : tie.Need-overflow_sub-short
 sub-short c = search rules
 
-body-length-requires : tie.Need-body-length-requires
+body-length-requires : tie.Need-body_length-requires
 body-length-requires c κs = search rules
 
-is-known-requires : tie.Need-is-known-requires
+is-known-requires : tie.Need-is_known-requires
 is-known-requires c κs = search rules
 
-in-turn-requires : tie.Need-in-turn-requires
+in-turn-requires : tie.Need-in_turn-requires
 in-turn-requires c κs = search rules
 
 admit-requires : tie.Need-admit-requires
 admit-requires c κs = search rules
 
-enum-known-why : tie.Need-enum-known-why
+enum-known-why : tie.Need-enum_known-why
 enum-known-why c = search rules
 
-enum_told : tie.Need-enum-told
+enum_told : tie.Need-enum_told-1
 enum_told c = search rules
 
-sub-body : tie.Need-overflow-sub-body
+sub-body : tie.Need-slice_bounds-body-count
 sub-body c = search rules
 
-part-body-start : tie.Need-slice-bounds-body-start
+part-body-start : tie.Need-slice_bounds-body-start
 part-body-start c = search rules
 
-part-body-end : tie.Need-slice-bounds-body-end
+part-body-end : tie.Need-slice_bounds-body-end
 part-body-end c = search rules
 
 body-requires : tie.Need-body-requires
 body-requires c κs =
-    let e = c.before in
+    let e = c in
     let a = e.before.before in
-    let long = ltb-false (length (list a) - 1) (body_length (kind a)) (whole_long _ _ _ (sym (told a) ∙ e.enum_told.given.1)) in
+    let long = ltb-false (length (list a) - 1) (body_length (kind a)) (whole_long _ _ _ (sym (told a) ∙ e.in-Whole.is)) in
     rw (all (list a), length-drop 1 (list a)) long
 
-returns-2 : tie.Need-returns-2
-returns-2 c = reads (sym (found c.before.before.before _ c.before.why.given.1))
+returns-2 : tie.Need-returns-in-Refused
+returns-2 c = reads (sym (found c.before _ c.in-Refused.is))
 
-returns-3 : tie.Need-returns-3
+returns-3 : tie.Need-returns-in-Whole
 returns-3 c =
-    let e = c.before.before in
+    let e = c in
     let a = e.before.before in
-    reads (c.body.ensures ∙ ap (body_of (kind a)) (all (list a)) ∙ sym (found a _ e.enum_told.given.1))
+    reads (c.body.ensures ∙ ap (body_of (kind a.before)) (all (list a.before)) ∙ sym (found a.before _ e.in-Whole.is))
 
 pub read_spec : {M : Type 1} → statement M
 read_spec =

@@ -4,10 +4,10 @@ use lib.IntN.{ℤ}
 use mir.Syntax.{w64}
 use mir.Facts.{to_z-of_z}
 use Rattle.integers.specs.lemmas.Size.{back}
-use Rattle.region-1.specs.declared.Region.{Region}
-use Rattle.region-1.specs.Region.{accepted}
-use Rattle.region-1.specs.Reach.{reach_of}
-use Rattle.region-1.specs.ReachOver.{Bounds, reach_bounds}
+use Rattle.region.specs.declared.Region.{Region}
+use Rattle.region.specs.Region.{accepted}
+use Rattle.region.specs.Reach.{reach_of}
+use Rattle.region.specs.ReachOver.{Bounds, reach_bounds}
 use borrow.Author.Rules.{rules}
 use Rattle.region_extent.proofs.bound.Statement.{statement}
 use Rattle.region_extent.proofs.bound.Tie as tie

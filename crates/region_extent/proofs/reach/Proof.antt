@@ -6,11 +6,11 @@ use mir.Facts.{to_z-of_z}
 use borrow.Author.Rules.{rules}
 use borrow.Author.Tests.{not-true, not-false}
 use Rattle.integers.specs.lemmas.Size.{back}
-use Rattle.region-1.specs.declared.Region.{Region}
-use Rattle.region-1.specs.declared.Region.TheVariants as R
-use Rattle.region-1.specs.Region.{accepted}
-use Rattle.region-1.specs.Reach.{reach_of}
-use Rattle.region-1.specs.Accepted.{disk-accepted}
+use Rattle.region.specs.declared.Region.{Region}
+use Rattle.region.specs.declared.Region.TheVariants as R
+use Rattle.region.specs.Region.{accepted}
+use Rattle.region.specs.Reach.{reach_of}
+use Rattle.region.specs.Accepted.{disk-accepted}
 use Rattle.region_extent.proofs.reach.Statement.{statement}
 use Rattle.region_extent.proofs.reach.Tie as tie
 

@@ -12,7 +12,7 @@ returns c =
     let p = c in
     let i = p in
     let s = i in
-    found_plain s.args.c s.requires.0 s.args.p (not-true _ i.if-not-thin.true) (p.is_pair.ensures c.if-is_pair.true)
+    found_plain s.args.c s.requires.0 s.args.p (i.if-not-thin.true) (p.is_pair.ensures c.if-is_pair.true)
 
 onward-requires : tie.Need-onward-requires
 onward-requires c κs = c.requires

@@ -81,7 +81,7 @@ returns-2 c =
         p = rw d.coordinate.ensures.0 (coordinate-size 10000 ((F + G) / 2) whole (omega arith));
         q = rw c.coordinate-2.ensures.0 (coordinate-size 7071 ((F + 20000 - G) * 70 / 198) whole (omega arith));
       },
-      λ h. absurd (false≢true (sym h ∙ not-false _ l)),
+      λ h. absurd (false≢true (sym h ∙ l)),
     )
 
 pub alpha0_spec : {M : Type 1} → statement M

@@ -49,7 +49,7 @@ returns c =
     let s = d.before.before.before.before.before.before.before in
     band_ext (simp (to_z-of_z (first s.before.before.before.before.before.before.before), to_z-of_z (second s.before.before.before.before.before.before.before), to_z-of_z (double s.before.before.before.before.before.before.before), to_z-of_z (both s.before.before.before.before.before.before.before)))
     (simp (to_z-of_z (first s.before.before.before.before.before.before.before), to_z-of_z (second s.before.before.before.before.before.before.before)) at d.combined.ensures)
-    (simp (to_z-of_z (first s), to_z-of_z (second s)) at c.combined-2.ensures)
+    (simp (to_z-of_z (first s.before.before.before.before.before.before.before), to_z-of_z (second s.before.before.before.before.before.before.before)) at c.combined-2.ensures)
 
 pub rows_of_spec : {M : Type 1} → statement M
 rows_of_spec = tie.close (tie.spec mul-t3 mul-t4 combined-requires combined-requires-2 returns)

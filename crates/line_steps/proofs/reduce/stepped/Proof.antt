@@ -82,7 +82,7 @@ returns c =
     let e : f.scale-f.result ≡ first_of s.args.s o v = f.scale-f.ensures ∙ ap (λ (y : Band). times_of y v) x.shift-y.ensures in
     let h : g.scale-g.result ≡ second_of s.args.t o v = g.scale-g.ensures ∙ ap₂ times_of (second_is x.before.before.before.before.before) g.conjugate-2.ensures in
     record {
-      is = scaled-by s.args.s s.args.t s.args.thin s.args.turned o v c.half-half.ensures (second_is x.before.before.before.before.before) e h (r.rows_of_lem.ensures ∙ ap₂ rows_band e h);
+      is = scaled-by s.args.s s.args.t s.args.thin s.args.turned o v c.half-half.ensures (second_is x.before.before.before.before.before) e h (r.rows_of-rows.ensures ∙ ap₂ rows_band e h);
       origin-size = a.alpha0-o.ensures.0;
       origin-plain = a.alpha0-o.ensures.1;
       unit = subst (λ (b : Band). Chosen b s.args.thin v) (second_is x.before.before.before.before.before) u.unit-u.ensures;

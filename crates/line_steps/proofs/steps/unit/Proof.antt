@@ -52,7 +52,7 @@ returns-2 c =
     record {
       even = p.power-u.ensures.0;
       size = p.power-u.ensures.1;
-      plain = λ h. absurd (false≢true (sym h ∙ not-false _ l.if-not-thin.false));
+      plain = λ h. absurd (false≢true (sym h ∙ l.if-not-thin.false));
       wide = inr (subst (Wide (pos 2)) (k.scale.ensures ∙ ap (times_of l.args.s) k.conjugate.ensures) (record { nn = sym w.is_within.ensures ∙ c.if-is_within.true }));
     }
 

@@ -6,7 +6,7 @@ use Rattle.region.specs.Reach.{reach_of}
 use Rattle.pattern_apart.proofs.share.shared.Statement.{statement}
 use Rattle.pattern_apart.proofs.share.shared.Tie as tie
 
-towards-requires : tie.Need-towards-requires
+towards-requires : tie.Need-towards-z-requires
 towards-requires c κs = search rules
 
 opposite-requires : tie.Need-opposite-requires
@@ -15,18 +15,18 @@ opposite-requires c κs = search rules
 opposite-requires-2 : tie.Need-opposite-requires-2
 opposite-requires-2 c κs = search rules
 
-reach-requires : tie.Need-reach-requires
+reach-requires : tie.Need-reach-h-requires
 reach-requires c κs = search rules
 
 sliced-requires : tie.Need-sliced-requires
 sliced-requires c κs =
-    let o = c.before in
-    let p = o.before in
-    let s = p.before.before.before.before in
-    (s.requires, back w64 c.reach.type-inv ∙ c.reach.ensures ∙ ap₂ (reach_of s.args.r) (back w16 p.opposite.type-inv ∙ p.opposite.ensures) (back w16 o.opposite2.type-inv ∙ o.opposite2.ensures))
+    let o = c in
+    let p = o in
+    let s = p in
+    (s.requires, back w64 c.reach-h.type_inv ∙ c.reach-h.ensures ∙ ap₂ (reach_of s.args.r) (back w16 p.opposite.type_inv ∙ p.opposite.ensures) (back w16 o.opposite-2.type_inv ∙ o.opposite-2.ensures))
 
 returns : tie.Need-returns
 returns c = search rules
 
-pub shared-spec : {M : Type 1} → statement M
-shared-spec = tie.close (tie.spec towards-requires opposite-requires opposite-requires-2 reach-requires sliced-requires returns)
+pub shared_spec : {M : Type 1} → statement M
+shared_spec = tie.close (tie.spec towards-requires opposite-requires opposite-requires-2 reach-requires sliced-requires returns)

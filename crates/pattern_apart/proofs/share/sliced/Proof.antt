@@ -19,16 +19,16 @@ abs-requires c κs = search rules
 disk-requires : tie.Need-disk-requires
 disk-requires c κs = search rules
 
-returns : tie.Need-returns
+returns : tie.Need-returns-then-abs-gt-FARTHEST
 returns c = rw c.disk.ensures (disk-shares _)
 
 scale-requires : tie.Need-scale-requires
 scale-requires c κs = search rules
 
 turned-requires : tie.Need-turned-requires
-turned-requires c κs = omega (arith, c.before.before.abs.ensures, c.before.if1.false)
+turned-requires c κs = omega (arith, c.abs.ensures, c.if-abs-gt-FARTHEST.false)
 
-is-accepted-requires : tie.Need-is-accepted-requires
+is-accepted-requires : tie.Need-is_accepted-requires
 is-accepted-requires c κs = search rules
 
 -- the slice
@@ -37,23 +37,23 @@ module _ (c : tie.After-turned) where
   start = c.before.before.before.before
 
   abbrev s : Slice
-  s = record { n = c.before.scale.result; zx = start.args.x; zy = start.args.y; w = c.turned.result }
+  s = record { n = c.scale.result; zx = start.args.x; zy = start.args.y; w = c.turned.result }
 
   w-is : s.w ≡ neg_ℤ (reach_of start.args.r (neg_ℤ s.zx) (neg_ℤ s.zy))
-  w-is = c.turned.ensures ∙ ap neg_ℤ (to_z-of_z start.fits.h ∙ start.pre.1)
+  w-is = c.turned.ensures ∙ ap neg_ℤ (to_z-of_z start.ranges.h ∙ start.requires.1)
 
-returns-2 : tie.Need-returns-2
+returns-2 : tie.Need-returns-then-is_accepted
 returns-2 c =
     let t = c.before.before in
     let i = start t in
-    rw (to_z-of_z i.fits.x, to_z-of_z i.fits.y, back w32 t.turned.type-inv)
-    (slice-shares i.args.r (s t) t.before.scale.ensures (w-is t) (rw (to_z-of_z i.fits.x, to_z-of_z i.fits.y, back w32 t.turned.type-inv) at (sym c.before.is-accepted.ensures ∙ c.if2.true)))
+    rw (to_z-of_z i.ranges.x, to_z-of_z i.ranges.y, back w32 t.turned.type_inv)
+    (slice-shares i.args.r (s t) t.scale.ensures (w-is t) (rw (to_z-of_z i.ranges.x, to_z-of_z i.ranges.y, back w32 t.turned.type_inv) at (sym c.is_accepted.ensures ∙ c.if-is_accepted.true)))
 
-disk-requires-2 : tie.Need-disk-requires-2
+disk-requires-2 : tie.Need-disk-requires-else-is_accepted
 disk-requires-2 c κs = search rules
 
-returns-3 : tie.Need-returns-3
-returns-3 c = rw c.disk2.ensures (disk-shares _)
+returns-3 : tie.Need-returns-else-is_accepted
+returns-3 c = rw c.disk-else-is_accepted.ensures (disk-shares _)
 
-pub sliced-spec : {M : Type 1} → statement M
-sliced-spec = tie.close (tie.spec abs-requires disk-requires returns scale-requires turned-requires is-accepted-requires disk-requires-2 returns-2 returns-3)
+pub sliced_spec : {M : Type 1} → statement M
+sliced_spec = tie.close (tie.spec abs-requires disk-requires returns scale-requires turned-requires is-accepted-requires disk-requires-2 returns-2 returns-3)

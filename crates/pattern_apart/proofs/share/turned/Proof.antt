@@ -14,14 +14,14 @@ narrow c = size→fits (omega (arith, c.requires))
 fits : (c : tie.Start) → SFits w32 (pos 0 -ℤ c.args.h)
 fits c = size→fits (omega (arith, size-- (pos 0) c.args.h, c.requires))
 
-cast-result : tie.Need-overflow-cast-result
+cast-result : tie.Need-overflow_cast-result
 cast-result c = rw (to_z-of_z c.ranges.h) (narrow c)
 
-sub-result : tie.Need-overflow-sub-result
+sub-result : tie.Need-overflow_sub-result
 sub-result c = rw (to_z-of_z c.ranges.h, to_z-of_z (narrow c)) (fits c)
 
 returns : tie.Need-returns
 returns c = rw (to_z-of_z c.ranges.h, to_z-of_z (narrow c)) (to_z-of_z (fits c) ∙ +ℤ_idl (neg_ℤ c.args.h))
 
-pub turned-spec : {M : Type 1} → statement M
-turned-spec = tie.close (tie.spec cast-result sub-result returns)
+pub turned_spec : {M : Type 1} → statement M
+turned_spec = tie.close (tie.spec cast-result sub-result returns)

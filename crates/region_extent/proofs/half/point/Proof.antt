@@ -35,7 +35,7 @@ module _ (c : tie.Else-not-is_point) where
   s = start.args.s
 
   one : OnePoint s
-  one = one-point s (sym c.is_point_lem.ensures ∙ not-false _ c.if-not-is_point.false)
+  one = one-point s (sym c.is_point.ensures ∙ not-false _ c.if-not-is_point.false)
 
   limits : SliceLimits s
   limits = slice-limits s start.requires.0

@@ -1,7 +1,7 @@
 use mathlib.Core.Path.{sym, ◌∙◌, ap}
 use borrow.Author.Rules.{rules}
-use Rattle.region-1.specs.declared.Enclosure.TheVariants as E
-use Rattle.region-1.specs.Enclosure.{enclosed}
+use Rattle.region.specs.declared.Enclosure.TheVariants as E
+use Rattle.region.specs.Enclosure.{enclosed}
 use Rattle.region_extent.proofs.outer.enclosure.Statement.{statement}
 use Rattle.region_extent.proofs.outer.enclosure.Tie as tie
 
