@@ -5,7 +5,8 @@ ghost use Rattle.std.specs.Prelude.{◌≡◌, ◌≤◌, length, take};
 ghost use Rattle.system_transfer.specs.Sending.{Sent};
 ghost use Rattle.system_transfer.specs.Receiving.{Received};
 
-use libc::STDIN_FILENO;
+use std::io::{Eprint, Input, Print};
+use std::time::Clock;
 use system_transfer::Transfer;
 
 // One byte more than an input of words or records may have.
@@ -15,16 +16,18 @@ pub fn input_buffer() -> [u8; 65537]
     [0; 65537]
 }
 
-pub fn read(input: &mut [u8]) -> Transfer
+// Standard input.
+pub fn read<R: Input + Eprint + Clock>(rt: &R, input: &mut [u8]) -> Transfer
     ensures { Received input.new result }
 {
-    system_streams::read(STDIN_FILENO, b"standard input", input)
+    let mut from = rt.reader();
+    system_streams::read(&mut from, rt, b"standard input", input)
 }
 
 // The first n bytes.
-pub fn print(text: &[u8], n: usize) -> bool
+pub fn print<R: Print + Eprint + Clock>(rt: &R, text: &[u8], n: usize) -> bool
     requires { n ≤ length text.now }
     ensures { Sent (take n text.now) result }
 {
-    system_streams::print(&text[..n])
+    system_streams::print(rt, &text[..n])
 }

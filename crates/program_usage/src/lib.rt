@@ -4,22 +4,30 @@
 ghost use Rattle.std.specs.Prelude.{◌≡◌, true};
 ghost use Rattle.program_usage.specs.Said.{Said};
 
-use libc::STDERR_FILENO;
+use std::env::{Env, FillError};
+use std::io::Write;
+use std::time::Clock;
 
 // Whether there is an argument; the text has then been offered.
-pub fn told(text: &[u8]) -> bool
+pub fn told<R: Env + Clock, W: Write>(rt: &R, to: &mut W, text: &[u8]) -> bool
     ensures { result ≡ true → Said text.now }
 {
-    if os::arg_count() < 2 {
+    if !has_argument(rt, 1) {
         return false;
     }
-    say(text);
+    say(rt, to, text);
     true
 }
 
-// Offers the text to standard error.
-pub fn say(text: &[u8])
+// Whether there is an argument at a place, that is from 1 on.
+pub fn has_argument<R: Env>(rt: &R, i: usize) -> bool {
+    let mut first = [0u8; 1];
+    !matches!(rt.arg(i, &mut first), Err(FillError::NotPresent))
+}
+
+// Offers the text to standard error, or to any other writer.
+pub fn say<C: Clock, W: Write>(clock: &C, to: &mut W, text: &[u8])
     ensures { Said text.now }
 {
-    system_streams::send(STDERR_FILENO, text);
+    system_streams::send(to, clock, text);
 }

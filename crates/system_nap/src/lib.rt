@@ -1,33 +1,26 @@
 // A sleep of some milliseconds.
 #![tactic(auto)]
 
-ghost use Rattle.std.specs.Prelude.{◌<◌};
-ghost use Rattle.libc.specs.Io.{Status};
+ghost use Rattle.std.specs.Prelude.{◌≡◌, ◌<◌, ◌*◌, ◌%◌};
+ghost use Rattle.std.specs.Duration.{as_nanos};
 
-use libc::types::timespec;
+use std::thread;
+use std::time::{Clock, Duration};
 
-// Sleeps for ms milliseconds, less than a second, or until a signal comes.
-pub fn milliseconds(ms: u64) {
-    nap(time_of(ms), time_of(0));
+// Sleeps for ms milliseconds, less than a second: for its last three digits. A signal cuts it no shorter.
+pub fn milliseconds<C: Clock>(clock: &C, ms: u64) {
+    thread::sleep(clock, time_of(ms));
 }
 
-// The two structs are lent to the system for the call: the proof is a walk by hand.
-fn nap(asked: timespec, rest: timespec) -> i32
-    ensures { Status result }
+fn time_of(ms: u64) -> Duration
+    ensures { as_nanos result ≡ 1000000 * (ms % 1000) }
 {
-    let mut left = rest;
-    libc::nanosleep(&asked, &mut left)
-}
-
-fn time_of(ms: u64) -> timespec {
-    timespec {
-        tv_sec: 0,
-        tv_nsec: nanoseconds(ms) as i64,
-    }
+    Duration::from_nanos(nanoseconds(ms))
 }
 
 fn nanoseconds(ms: u64) -> u64
-    ensures { result < 1000000000 }
+    ensures below { result < 1000000000 }
+    ensures value { result ≡ 1000000 * (ms % 1000) }
 {
     1000000 * (ms % 1000)
 }

@@ -2,33 +2,52 @@
 ghost use Rattle.std.specs.Prelude.{◌≤◌, length, ◌≡◌, false, cond, eqb};
 ghost use Rattle.system_transfer.specs.Receiving.{Turn, Received, Arrived};
 
-use crate::wait;
+use crate::{failure, wait};
+use std::io;
+use std::io::{Eprint, Read};
+use std::time::Clock;
 use system_transfer::Transfer;
 
 // Reads until the input ends, buf is full or a read fails.
-pub fn read(fd: i32, name: &[u8], buf: &mut [u8]) -> Transfer
+pub fn read<R: Read, S: Eprint + Clock>(
+    from: &mut R,
+    rt: &S,
+    name: &[u8],
+    buf: &mut [u8],
+) -> Transfer
     ensures { Received buf.new result }
 {
     let mut t = system_transfer::begin(buf.len());
+    let mut last = Ok(0);
     while t.more {
-        t = fetch(fd, buf, t);
+        let (next, got) = fetch(from, rt, buf, t);
+        t = next;
+        last = got;
     }
     if t.failed {
-        os::fail(name);
+        failure::fail(rt, name, failure::reason(last));
     }
     t
 }
 
 // Reads what there is, and waits for it where there is nothing: no byte only where the input ends, buf has no room or a read fails.
-pub fn read_some(fd: i32, name: &[u8], buf: &mut [u8]) -> Transfer
+pub fn read_some<R: Read, S: Eprint + Clock>(
+    from: &mut R,
+    rt: &S,
+    name: &[u8],
+    buf: &mut [u8],
+) -> Transfer
     ensures { Arrived buf.new result }
 {
     let mut t = system_transfer::begin(buf.len());
+    let mut last = Ok(0);
     while asks(t) {
-        t = fetch(fd, buf, t);
+        let (next, got) = fetch(from, rt, buf, t);
+        t = next;
+        last = got;
     }
     if t.failed {
-        os::fail(name);
+        failure::fail(rt, name, failure::reason(last));
     }
     t
 }
@@ -39,15 +58,19 @@ fn asks(t: Transfer) -> bool
     if t.more { t.at == 0 } else { false }
 }
 
-// A read into the rest of buf, and the step that the system's answer makes.
-fn fetch(fd: i32, buf: &mut [u8], t: Transfer) -> Transfer
+// A read into the rest of buf, and the step that its answer makes.
+fn fetch<R: Read, C: Clock>(
+    from: &mut R,
+    clock: &C,
+    buf: &mut [u8],
+    t: Transfer,
+) -> (Transfer, io::Result<usize>)
     requires { t.at ≤ length buf.old }
-    ensures { Turn t result buf.old buf.new }
+    ensures { Turn t result.0 buf.old buf.new }
 {
     let at = t.at;
-    let got = libc::read(fd, &mut buf[at..]);
-    let a = system_transfer::judged(got, os::errno());
-    let p = t.patience;
-    wait::after(a, p);
-    system_transfer::received(t, buf.len(), a)
+    let got = from.read(&mut buf[at..]);
+    let a = system_transfer::answered(&got);
+    wait::after(clock, a, t.patience);
+    (system_transfer::received(t, buf.len(), a), got)
 }

@@ -1,12 +1,13 @@
 // Waiting where the system has put us off.
+use std::time::Clock;
 use system_transfer::{Answer, Patience};
 
-// The pause after an answer, where there is to be one: none where patience is at its end, so that errno stays as it is.
-pub(crate) fn after(a: Answer, p: Patience) {
+// The pause after an answer, where there is to be one: none where patience is at its end.
+pub(crate) fn after<C: Clock>(clock: &C, a: Answer, p: Patience) {
     let Answer::NotNow = a else {
         return;
     };
     if p.left > 0 {
-        system_nap::milliseconds(p.pause);
+        system_nap::milliseconds(clock, p.pause);
     }
 }

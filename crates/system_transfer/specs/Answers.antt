@@ -1,11 +1,19 @@
 -- What a call of read or write came to, and how often the system may put us off. Assumes nothing.
-use Rattle.std.specs.Prelude.{Bool, true, false, cond, ℕ, ◌*◌, ◌-◌, ◌≤◌, eqb, ltb, ℤ, pos, negsuc}
+use Rattle.std.specs.Prelude.{◌≡◌, Bool, true, false, cond, ℕ, ◌*◌, ◌-◌, ◌≤◌, eqb, ltb, ℤ, pos, negsuc, Result, Ok, Err}
 use Rattle.std.specs.Int.{w32}
 use Rattle.std.proofs.Common.{of_z}
-use Rattle.libc.specs.Io.{Moved}
+use Rattle.std.specs.IoError.{error_kind}
+use Rattle.std.specs.declared.io.Error.{Error}
+use Rattle.std.specs.declared.io.ErrorKind.{ErrorKind}
+use Rattle.std.specs.declared.io.ErrorKind.TheVariants.{WouldBlock, Interrupted}
 use Rattle.system_transfer.specs.declared.Answer.{Answer}
 use Rattle.system_transfer.specs.declared.Answer.TheVariants as A
 use Rattle.system_transfer.specs.declared.patience.Patience.{Patience}
+
+-- what a call that is handed n bytes may answer: -1, or how many bytes it moved, at most n
+abbrev pub Moved : ℕ → ℤ → Type 0
+Moved n (pos k) = k ≤ n
+Moved n (negsuc k) = k ≡ 0
 
 -- what errno, as a word, says of a call that failed: EAGAIN is 11, EINTR is 4
 abbrev pub error_of : ℕ → Answer
@@ -15,6 +23,20 @@ error_of e = cond (eqb e 11) A.NotNow (cond (eqb e 4) A.Interrupted A.Failed)
 abbrev pub answer_of : ℤ → ℤ → Answer
 answer_of (pos n) error = A.Moved n
 answer_of (negsuc n) error = error_of (of_z w32 error)
+
+-- the same two numbers of what a reader's or a writer's call answered. An error is told by its kind: 11 where the call would have to wait, 4 where a signal came first, 5 for every other
+abbrev pub number_of : ErrorKind → ℤ
+number_of WouldBlock = pos 11
+number_of Interrupted = pos 4
+number_of _ = pos 5
+
+abbrev pub got_of : Result ℕ Error → ℤ
+got_of (Ok n) = pos n
+got_of (Err e) = negsuc 0
+
+abbrev pub error_of_result : Result ℕ Error → ℤ
+error_of_result (Ok n) = pos 0
+error_of_result (Err e) = number_of (error_kind e)
 
 -- an answer to a call that was handed n bytes
 abbrev pub AtMost : ℕ → Answer → Type 0

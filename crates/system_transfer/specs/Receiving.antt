@@ -1,12 +1,11 @@
 -- An input on its way in: what the reads gave up to the answer 0. A read that fails is no end. Assumes nothing.
-use Rattle.std.specs.Prelude.{◌≡◌, refl, Bool, true, false, cond, ◌⊎◌, List, [], ◌++◌, ℕ, ◌+◌, ◌*◌, ◌-◌, ◌≤◌, ◌<◌, eqb, ltb, ℤ, pos, negsuc, length, take, drop}
+use Rattle.std.specs.Prelude.{◌≡◌, refl, Bool, true, false, cond, ◌⊎◌, List, [], ◌++◌, ℕ, ◌+◌, ◌-◌, ◌≤◌, ◌<◌, eqb, ltb, ℤ, pos, negsuc, length, take, drop}
 use Rattle.std.proofs.Common.{sym, ap, ◌∙◌, inl, inr, append-nil, arith, ltb-true, ltb-false, eqb-true, length-take-le, take-add, of_z}
 use Rattle.std.specs.Int.{w32}
 use Rattle.io.specs.Counts.{IsPrefixLen}
-use Rattle.libc.specs.Io.{Moved}
 use Rattle.system_transfer.specs.declared.Answer.TheVariants as A
 use Rattle.system_transfer.specs.declared.Transfer.{Transfer}
-use Rattle.system_transfer.specs.Answers.{full_patience, answer_of}
+use Rattle.system_transfer.specs.Answers.{Moved, full_patience, answer_of}
 use Rattle.system_transfer.specs.Transfer.{begun_of, closed_of, step_of, Inside, begun-inside, step-inside}
 use Rattle.system_transfer.specs.Sending.{count_of}
 

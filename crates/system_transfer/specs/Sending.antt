@@ -1,14 +1,11 @@
 -- A text on its way out. Over every sequence of answers the bytes taken, joined, are a beginning of the text, and all of it exactly where the machine ends without a failure: none is offered again after it was taken, and none is skipped. Assumes nothing.
-use Rattle.std.specs.Prelude.{◌≡◌, refl, Bool, true, false, not, cond, List, [], ◌++◌, ℕ, ◌+◌, ◌*◌, ◌-◌, ◌≤◌, ◌<◌, eqb, ltb, ℤ, pos, negsuc, length, take, drop}
+use Rattle.std.specs.Prelude.{◌≡◌, refl, Bool, true, false, not, cond, List, [], ◌++◌, ℕ, ◌+◌, ◌-◌, ◌≤◌, ◌<◌, eqb, ltb, ℤ, pos, negsuc, length, take, drop}
 use Rattle.std.proofs.Common.{sym, ap, ◌∙◌, append-nil, arith, ltb-true, ltb-false, eqb-true, length-take-le, take-add, of_z}
-use Rattle.std.proofs.lemmas.Bool.{eqb-false}
 use Rattle.std.proofs.Math.Seq.{take-length}
 use Rattle.std.specs.Int.{w32}
-use Rattle.libc.specs.Io.{Moved}
-use Rattle.system_transfer.specs.declared.Answer.{Answer}
 use Rattle.system_transfer.specs.declared.Answer.TheVariants as A
 use Rattle.system_transfer.specs.declared.Transfer.{Transfer}
-use Rattle.system_transfer.specs.Answers.{AtMost, full_patience, answer_of, answer-most}
+use Rattle.system_transfer.specs.Answers.{Moved, full_patience, answer_of}
 use Rattle.system_transfer.specs.Transfer.{begun_of, closed_of, step_of, Inside, begun-inside, step-inside}
 
 -- how many bytes a call moved, by what it answered

@@ -1,6 +1,6 @@
 -- The machine that moves the bytes of a slice, one way or the other, and that each answer leaves it less to do. Assumes nothing.
 use Rattle.std.specs.Prelude.{◌≡◌, refl, Bool, true, false, cond, ℕ, suc, ◌+◌, ◌*◌, ◌-◌, ◌≤◌, ◌<◌, eqb, ltb}
-use Rattle.std.proofs.Common.{sym, ap, ◌∙◌, arith, ltb-true, ltb-false}
+use Rattle.std.proofs.Common.{arith, ltb-true, ltb-false}
 use Rattle.std.proofs.lemmas.Bool.{eqb-false}
 use Rattle.system_transfer.specs.declared.Answer.{Answer}
 use Rattle.system_transfer.specs.declared.Answer.TheVariants as A

@@ -4,13 +4,21 @@
 #![tactic(auto)]
 
 ghost use Rattle.std.specs.Prelude.{◌≡◌, true, false, ◌≤◌};
-ghost use Rattle.system_transfer.specs.Answers.{answer_of};
+ghost use Rattle.system_transfer.specs.Answers.{answer_of, got_of, number_of, error_of_result};
 ghost use Rattle.system_transfer.specs.Transfer.{begun_of, closed_of, moved_of, put_off_of, step_of};
 
 mod patience;
 
-use libc::{EAGAIN, EINTR};
 pub use patience::Patience;
+use std::io;
+use std::io::ErrorKind;
+
+// The system's numbers for an error: the call would have to wait; a signal came first; and one that stands for every other.
+const EAGAIN: i32 = 11;
+
+const EINTR: i32 = 4;
+
+const EIO: i32 = 5;
 
 // What a call of read or write came to: it moved so many bytes; it would have to wait; a signal came first; it failed.
 #[derive(Clone, Copy)]
@@ -44,6 +52,27 @@ pub fn judged(got: isize, error: i32) -> Answer
         return Answer::Failed;
     }
     Answer::Interrupted
+}
+
+// What a reader's or a writer's call answered.
+pub fn answered(got: &io::Result<usize>) -> Answer
+    ensures { result ≡ answer_of (got_of got.now) (error_of_result got.now) }
+{
+    match got {
+        Ok(n) => Answer::Moved(*n),
+        Err(why) => judged(-1, number(why.kind())),
+    }
+}
+
+// The system's number for a kind of error.
+fn number(kind: ErrorKind) -> i32
+    ensures { result ≡ number_of kind }
+{
+    match kind {
+        ErrorKind::WouldBlock => EAGAIN,
+        ErrorKind::Interrupted => EINTR,
+        _ => EIO,
+    }
 }
 
 // Before the first byte of a slice of length bytes.
