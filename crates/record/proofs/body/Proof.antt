@@ -65,7 +65,7 @@ returns-3 : tie.Need-returns-in-Ellipse
 returns-3 c = c.checked_region-in-Ellipse.ensures ∙ sym (body-ellipse _ _ c.in-Ellipse.is _ c.ellipse_at.ensures)
 
 returns-4 : tie.Need-returns-in-Slice
-returns-4 c = c.checked_region-in-Slice.ensures ∙ sym (body-slice _ _ c.in-Slice.is _ c.Slice-at.ensures)
+returns-4 c = c.checked_region-in-Slice.ensures ∙ sym (body-slice _ _ c.in-Slice.is _ c.slice_at.ensures)
 
 returns-5 : tie.Need-returns-in-Operator
 returns-5 c = c.checked_operator.ensures ∙ sym (body-operator _ _ c.in-Operator.is _ c.operator_at.ensures)
