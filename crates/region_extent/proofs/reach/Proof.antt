@@ -24,10 +24,10 @@ refused (R.Ellipse e) u v h = rw (h, reach_of) refl
 refused (R.Slice s) u v h = rw (h, reach_of) refl
 
 returns : tie.Need-returns-then-not-is_accepted
-returns c = let s = c.args in sym (refused s.region-1 s.u s.v (sym c.is_accepted.ensures ∙ not-true _ c.if-not-is_accepted.true))
+returns c = let s = c.args in sym (refused s.region s.u s.v (sym c.is_accepted.ensures ∙ c.if-not-is_accepted.true))
 
 taken : (c : tie.Else-not-is_accepted) → accepted c.args.region ≡ true
-taken c = sym c.is_accepted.ensures ∙ not-false _ c.if-not-is_accepted.false
+taken c = sym c.is_accepted.ensures ∙ c.if-not-is_accepted.false
 
 enum-known-region : tie.Need-enum_known-region
 enum-known-region c = search rules
@@ -39,7 +39,7 @@ enum-known-region-2 : tie.Need-enum_known-region-in-Ellipse-1
 enum-known-region-2 c = search rules
 
 over-ellipse-requires : tie.Need-over_ellipse-requires
-over-ellipse-requires c κs = ap accepted (sym c.in-Ellipse.is) ∙ taken c.before.before.before
+over-ellipse-requires c κs = ap accepted (sym c.in-Ellipse.is) ∙ taken c.before
 
 enum-known-region-3 : tie.Need-enum_known-region-in-Slice-1
 enum-known-region-3 c = search rules
@@ -74,7 +74,7 @@ returns-4 c =
     let d = c in
     let k = d in
     let s = k in
-    let a : accepted (R.Slice k.in-Slice.s) ≡ true = ap accepted (sym k.in-Slice.is) ∙ taken k.before.before in
+    let a : accepted (R.Slice k.in-Slice.s) ≡ true = ap accepted (sym k.in-Slice.is) ∙ taken k.before.before.before in
     rw (k.in-Slice.is, a) (back w64 c.over_ellipse-in-Slice.type_inv ∙ (simp (d.disk.ensures, to_z-of_z s.ranges.u, to_z-of_z s.ranges.v) at c.over_ellipse-in-Slice.ensures))
 
 pub reach_spec : {M : Type 1} → statement M

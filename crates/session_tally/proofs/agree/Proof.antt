@@ -12,14 +12,14 @@ use Rattle.session_tally.proofs.agree.Tie as tie
 difference-requires : tie.Need-difference-requires
 difference-requires c κs = search rules
 
-is-even-requires : tie.Need-is-even-requires
+is-even-requires : tie.Need-is_even-requires
 is-even-requires c κs = search rules
 
 returns : tie.Need-returns
 returns c =
-    let d = c.before in
-    let s = d.before in
-    c.is_even.ensures ∙ ap even (back w64 d.difference.type-inv ∙ d.difference.ensures ∙ ap₂ ◌-ℤ◌ (to_z-of_z s.ranges.a) (to_z-of_z s.ranges.b))
+    let d = c in
+    let s = d in
+    c.is_even.ensures ∙ ap even (back w64 d.difference.type_inv ∙ d.difference.ensures ∙ ap₂ ◌-ℤ◌ (to_z-of_z s.ranges.a) (to_z-of_z s.ranges.b))
 
-pub agree-spec : {M : Type 1} → statement M
-agree-spec = tie.close (tie.spec difference-requires is-even-requires returns)
+pub agree_spec : {M : Type 1} → statement M
+agree_spec = tie.close (tie.spec difference-requires is-even-requires returns)

@@ -4,17 +4,17 @@ use borrow.Author.Rules.{rules}
 use Rattle.session_tally.proofs.all_new.Statement.{statement}
 use Rattle.session_tally.proofs.all_new.Tie as tie
 
-mul-counts : tie.Need-overflow-mul-counts
+mul-counts : tie.Need-offset_bounds-counts-e
 mul-counts c = search rules
 
-array-write-counts : tie.Need-array-write-counts
+array-write-counts : tie.Need-bounds-counts-e
 array-write-counts c = search rules
 
-returns : tie.Need-returns
+returns : tie.Need-returns-then-e-lt21
 returns c = alone-set _ _
 
-returns-2 : tie.Need-returns-2
+returns-2 : tie.Need-returns-else-e-lt21
 returns-2 c = alone-past _ _ (search rules)
 
-pub all-new-spec : {M : Type 1} → statement M
-all-new-spec = tie.close (tie.spec mul-counts array-write-counts returns returns-2)
+pub all_new_spec : {M : Type 1} → statement M
+all_new_spec = tie.close (tie.spec mul-counts array-write-counts returns returns-2)

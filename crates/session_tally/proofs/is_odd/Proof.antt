@@ -15,13 +15,13 @@ use Rattle.session_tally.proofs.is_odd.Tie as tie
 agree-requires : tie.Need-agree-requires
 agree-requires c κs = search rules
 
-agree-requires-2 : tie.Need-agree-requires-2
+agree-requires-2 : tie.Need-agree-requires-then-agree
 agree-requires-2 c κs = search rules
 
 -- what the first test answers
 module _ (c : tie.After-agree) where
   abbrev v : Point
-  v = c.before.before.before.args.v
+  v = c.args.v
 
   ac : c.agree.result ≡ even (v.a -ℤ v.c)
   ac =
@@ -29,18 +29,18 @@ module _ (c : tie.After-agree) where
       let hc : SFits w32 v.c = search rules in
       c.agree.ensures ∙ ap even (ap₂ ◌-ℤ◌ (to_z-of_z ha) (to_z-of_z hc))
 
-returns : tie.Need-returns
+returns : tie.Need-returns-then-agree
 returns c =
     let a = c.before.before.before.before in
     let v = v a in
     let hb : SFits w32 v.b = search rules in
     let hd : SFits w32 v.d = search rules in
-    let t : even (v.a -ℤ v.c) ≡ true = sym (ac a) ∙ c.before.before.before.if1.true in
-    let b : c.agree2.result ≡ even (v.b -ℤ v.d) = c.agree2.ensures ∙ ap even (ap₂ ◌-ℤ◌ (to_z-of_z hb) (to_z-of_z hd)) in
+    let t : even (v.a -ℤ v.c) ≡ true = sym (ac a) ∙ c.if-agree.true in
+    let b : c.agree-then-agree.result ≡ even (v.b -ℤ v.d) = c.agree-then-agree.ensures ∙ ap even (ap₂ ◌-ℤ◌ (to_z-of_z hb) (to_z-of_z hd)) in
     ap not b ∙ rw t refl
 
-returns-2 : tie.Need-returns-2
-returns-2 c = sym (odd-ac (v c.before) (sym (ac c.before) ∙ c.if1.false))
+returns-2 : tie.Need-returns
+returns-2 c = sym (odd-ac (v c.before) (sym (ac c.before) ∙ c.if-agree.false))
 
-pub is-odd-spec : {M : Type 1} → statement M
-is-odd-spec = tie.close (tie.spec agree-requires agree-requires-2 returns returns-2)
+pub is_odd_spec : {M : Type 1} → statement M
+is_odd_spec = tie.close (tie.spec agree-requires agree-requires-2 returns returns-2)

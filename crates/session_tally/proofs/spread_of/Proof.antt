@@ -12,141 +12,141 @@ use Rattle.session_tally.specs.lemmas.Read.{first_spread, count_none, count_most
 use Rattle.session_tally.proofs.spread_of.Statement.{statement}
 use Rattle.session_tally.proofs.spread_of.Tie as tie
 
-abbrev invariant-loop : tie.invariant-loop
+abbrev invariant-loop : tie.invariant-loop-i
 invariant-loop points n k counts₀ even₀ i₀ counts even i = (i ≤ n) × (even ≤ i) × (plus_at counts k (i - even) ≡ first_spread k points i)
 
-abbrev decreases-loop : tie.decreases-loop
+abbrev decreases-loop : tie.decreases-loop-i
 decreases-loop points n k counts₀ even₀ i₀ counts even i = n - i
 
 -- in the loop there is a point
-module _ (c : tie.In-loop invariant-loop decreases-loop) where
+module _ (c : tie.In-loop-i invariant-loop decreases-loop) where
   abbrev start : tie.Start invariant-loop decreases-loop
   start = c.before.before
 
-  there : 4 * c.before.loop.i + 4 ≤ length start.args.points.now
-  there = let p = start.pre in let h = c.loop-test.true in omega arith
+  there : 4 * c.loop-i.i + 4 ≤ length start.args.points.now
+  there = let p = start.requires in let h = c.loop-i-test.true in omega arith
 
-loop-holds : tie.Need-loop-init invariant-loop decreases-loop
+loop-holds : tie.Need-loop-i-init invariant-loop decreases-loop
 loop-holds c = (omega arith, omega arith, count_none c.args.k c.args.points.now)
 
-point-at-requires : tie.Need-point-at-requires invariant-loop decreases-loop
+point-at-requires : tie.Need-point_at-v-requires invariant-loop decreases-loop
 point-at-requires c κs = search rules
 
-is-odd-requires : tie.Need-is-odd-requires invariant-loop decreases-loop
+is-odd-requires : tie.Need-is_odd-requires invariant-loop decreases-loop
 is-odd-requires c κs = search rules
 
-exponent-requires : tie.Need-exponent-requires invariant-loop decreases-loop
-exponent-requires c κs = sym c.before.is_odd.ensures ∙ not-true _ c.if1.true
+exponent-requires : tie.Need-exponent-e-requires invariant-loop decreases-loop
+exponent-requires c κs = sym c.is_odd.ensures ∙ c.if-not-is_odd.true
 
-cast-e : tie.Need-overflow-cast-e invariant-loop decreases-loop
+cast-e : tie.Need-overflow_cast-e invariant-loop decreases-loop
 cast-e c = search rules
 
-mul-counts : tie.Need-overflow-mul-counts invariant-loop decreases-loop
+mul-counts : tie.Need-offset_bounds-counts-e invariant-loop decreases-loop
 mul-counts c = search rules
 
-array-read-counts : tie.Need-array-read-counts invariant-loop decreases-loop
+array-read-counts : tie.Need-bounds-counts-e invariant-loop decreases-loop
 array-read-counts c = search rules
 
-add-counts : tie.Need-overflow-add-counts invariant-loop decreases-loop
+add-counts : tie.Need-overflow_add-counts invariant-loop decreases-loop
 add-counts c =
     let l = c.before.before.before.before.before in
     let t = l.before in
     let s = t.before in
-    let i = t.loop.invariant in
+    let i = t.loop-i.invariant in
     let o = there l in
-    let m = count_most s.args.k s.args.points.now t.loop.i t.loop.even t.loop.counts i.1 i.2 (omega arith) c.before.exponent.result c.if2.true in
+    let m = count_most s.args.k s.args.points.now t.loop-i.i t.loop-i.even t.loop-i.counts i.1 i.2 (omega arith) c.exponent-e.result c.if-e-lt21.true in
     search rules
 
-array-write-counts : tie.Need-array-write-counts invariant-loop decreases-loop
+array-write-counts : tie.Need-bounds-counts-e-then-e-lt21 invariant-loop decreases-loop
 array-write-counts c = search rules
 
-add-even : tie.Need-overflow-add-even invariant-loop decreases-loop
+add-even : tie.Need-overflow_add-even invariant-loop decreases-loop
 add-even c = search rules
 
-add-i : tie.Need-overflow-add-i invariant-loop decreases-loop
+add-i : tie.Need-overflow_add-i invariant-loop decreases-loop
 add-i c = search rules
 
-loop-less : tie.Need-loop-smaller invariant-loop decreases-loop
+loop-less : tie.Need-loop-i-smaller invariant-loop decreases-loop
 loop-less c = search rules
 
-loop-again : tie.Need-loop-preserved invariant-loop decreases-loop
+loop-again : tie.Need-loop-i-preserved invariant-loop decreases-loop
 loop-again c =
-    let p = c.before.before in
+    let p = c in
     let l = p.before in
     let t = l.before in
     let s = t.before in
-    let i = t.loop.invariant in
-    let h = l.loop-test.true in
-    let o = there l in
+    let i = t.loop-i.invariant in
+    let h = l.loop-i-test.true in
+    let o = there l.before.before in
     let k = s.args.k in
-    let m : 4 * t.loop.i ≤ length s.args.points.now = omega arith in
-    let v = p.point_at.result in
-    let at = p.point_at.ensures in
+    let m : 4 * t.loop-i.i ≤ length s.args.points.now = omega arith in
+    let v = p.point_at-v.result in
+    let at = p.point_at-v.ensures in
     ⊎_elim
     (λ w.
-    let e : c.if1.even ≡ t.loop.even + 1 = w.4 in
-    let n = t.loop.i + 1 - (t.loop.even + 1) in (
+    let e : c.if-not-is_odd.even ≡ t.loop-i.even + 1 = w.4 in
+    let n = t.loop-i.i + 1 - (t.loop-i.even + 1) in (
       omega arith,
       omega arith,
-      ap₂ (λ (l : List ℕ) (n : ℕ). plus_at l k (t.loop.i + 1 - n)) w.3 e
+      ap₂ (λ (l : List ℕ) (n : ℕ). plus_at l k (t.loop-i.i + 1 - n)) w.3 e
           ∙ ⊎_elim
-          (λ x. ap (λ (l : List ℕ). plus_at l k n) x.1 ∙ even-next k s.args.points.now t.loop.i t.loop.even t.loop.counts i.1 i.2 m v o at w.1.result w.1.ensures)
-          (λ x. ap (λ (l : List ℕ). plus_at l k n) x.1 ∙ past_next k s.args.points.now t.loop.i t.loop.even t.loop.counts i.1 i.2 m v o at w.1.result w.1.ensures x.0.left)
+          (λ x. ap (λ (l : List ℕ). plus_at l k n) x.1 ∙ even-next k s.args.points.now t.loop-i.i t.loop-i.even t.loop-i.counts i.1 i.2 m v o at w.1.result w.1.ensures)
+          (λ x. ap (λ (l : List ℕ). plus_at l k n) x.1 ∙ past_next k s.args.points.now t.loop-i.i t.loop-i.even t.loop-i.counts i.1 i.2 m v o at w.1.result w.1.ensures x.0.left)
           w.2.came,
     ))
     (λ w.
-    let e : c.if1.even ≡ t.loop.even = w.2 in (
+    let e : c.if-not-is_odd.even ≡ t.loop-i.even = w.2 in (
       omega arith,
       omega arith,
-      ap₂ (λ (l : List ℕ) (n : ℕ). plus_at l k (t.loop.i + 1 - n)) w.1 e
-          ∙ odd-next k s.args.points.now t.loop.i t.loop.even t.loop.counts i.1 i.2 m v o at (sym c.before.is_odd.ensures ∙ not-false _ w.0.left),
+      ap₂ (λ (l : List ℕ) (n : ℕ). plus_at l k (t.loop-i.i + 1 - n)) w.1 e
+          ∙ odd-next k s.args.points.now t.loop-i.i t.loop-i.even t.loop-i.counts i.1 i.2 m v o at (sym c.is_odd.ensures ∙ not-false _ w.0.left),
     ))
-    c.if1.branch
+    c.if-not-is_odd.branch-raw
 
-sub-counts : tie.Need-overflow-sub-counts invariant-loop decreases-loop
+sub-counts : tie.Need-overflow_sub-counts invariant-loop decreases-loop
 sub-counts c = search rules
 
-mul-counts-2 : tie.Need-overflow-mul-counts-2 invariant-loop decreases-loop
+mul-counts-2 : tie.Need-offset_bounds-counts-e-then-e-lt21-2 invariant-loop decreases-loop
 mul-counts-2 c = search rules
 
-array-read-counts-2 : tie.Need-array-read-counts-2 invariant-loop decreases-loop
+array-read-counts-2 : tie.Need-bounds-counts-e-then-e-lt21-2 invariant-loop decreases-loop
 array-read-counts-2 c = search rules
 
-add-counts-2 : tie.Need-overflow-add-counts-2 invariant-loop decreases-loop
+add-counts-2 : tie.Need-overflow_add-counts-then-e-lt21-2 invariant-loop decreases-loop
 add-counts-2 c =
-    let t = c.before.before in
-    let s = t.before in
-    let i = t.loop.invariant in
+    let t = c in
+    let s = t in
+    let i = t.loop-i.invariant in
     let p = s.requires in
-    let e : t.loop.i ≡ s.args.n = omega arith in
-    let m = full-most s.args.k s.args.points.now t.loop.i t.loop.even t.loop.counts i.1 i.2 (omega arith) c.if3.true in
+    let e : t.loop-i.i ≡ s.args.n = omega arith in
+    let m = full-most s.args.k s.args.points.now t.loop-i.i t.loop-i.even t.loop-i.counts i.1 i.2 (omega arith) c.if-e-lt21-2.true in
     search rules
 
-array-write-counts-2 : tie.Need-array-write-counts-2 invariant-loop decreases-loop
+array-write-counts-2 : tie.Need-bounds-counts-e-then-e-lt21-2-2 invariant-loop decreases-loop
 array-write-counts-2 c = search rules
 
-returns : tie.Need-returns invariant-loop decreases-loop
+returns : tie.Need-returns-then-e-lt21-2 invariant-loop decreases-loop
 returns c =
-    let t = c.before.before in
-    let s = t.before in
-    let i = t.loop.invariant in
+    let t = c in
+    let s = t in
+    let i = t.loop-i.invariant in
     let p = s.requires in
-    let e : t.loop.i ≡ s.args.n = omega arith in
-    let f = count-full s.args.k s.args.points.now t.loop.i t.loop.even t.loop.counts i.1 i.2 (omega arith) in
+    let e : t.loop-i.i ≡ s.args.n = omega arith in
+    let f = count-full s.args.k s.args.points.now t.loop-i.i t.loop-i.even t.loop-i.counts i.1 i.2 (omega arith) in
     rw e at f
 
-returns-2 : tie.Need-returns-2 invariant-loop decreases-loop
+returns-2 : tie.Need-returns-else-e-lt21-2 invariant-loop decreases-loop
 returns-2 c =
-    let t = c.before.before in
-    let s = t.before in
-    let i = t.loop.invariant in
+    let t = c in
+    let s = t in
+    let i = t.loop-i.invariant in
     let p = s.requires in
-    let e : t.loop.i ≡ s.args.n = omega arith in
-    let f = count-over s.args.k s.args.points.now t.loop.i t.loop.even t.loop.counts i.1 i.2 (omega arith) c.if3.false in
+    let e : t.loop-i.i ≡ s.args.n = omega arith in
+    let f = count-over s.args.k s.args.points.now t.loop-i.i t.loop-i.even t.loop-i.counts i.1 i.2 (omega arith) c.if-e-lt21-2.false in
     rw e at f
 
-pub spread-of-spec : {M : Type 1} → statement M
-spread-of-spec =
+pub spread_of_spec : {M : Type 1} → statement M
+spread_of_spec =
     tie.close
     (tie.spec
     invariant-loop

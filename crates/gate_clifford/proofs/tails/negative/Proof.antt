@@ -6,5 +6,5 @@ use Rattle.gate_clifford.proofs.tails.negative.Tie as tie
 returns : tie.Need-returns
 returns c = rw (to_z-of_z c.ranges.z) (negative-is c.args.z)
 
-pub negative-spec : {M : Type 1} → statement M
-negative-spec = tie.close (tie.spec returns)
+pub negative_spec : {M : Type 1} → statement M
+negative_spec = tie.close (tie.spec returns)

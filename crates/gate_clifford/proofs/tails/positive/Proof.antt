@@ -6,5 +6,5 @@ use Rattle.gate_clifford.proofs.tails.positive.Tie as tie
 returns : tie.Need-returns
 returns c = rw (to_z-of_z c.ranges.z) (positive-is c.args.z)
 
-pub positive-spec : {M : Type 1} → statement M
-positive-spec = tie.close (tie.spec returns)
+pub positive_spec : {M : Type 1} → statement M
+positive_spec = tie.close (tie.spec returns)

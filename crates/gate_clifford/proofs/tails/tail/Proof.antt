@@ -8,7 +8,7 @@ use borrow.Author.Rules.{rules}
 use Rattle.gate_clifford.proofs.tails.tail.Statement.{statement}
 use Rattle.gate_clifford.proofs.tails.tail.Tie as tie
 
-cast-m : tie.Need-overflow-cast-m
+cast-m : tie.Need-overflow_cast-m
 cast-m c = search rules
 
 index-requires : tie.Need-index-requires
@@ -23,7 +23,7 @@ unpack-requires c κs = search rules
 returns : tie.Need-returns
 unfolding tail
 returns c =
-    subst (λ n. Adds c.before.before.before.before.args.w (unpack 10 n []) c.unpack.result) (c.before.entry.ensures ∙ ap (λ i. get_or tails i 0) c.before.before.index.ensures.0) c.unpack.ensures
+    subst (λ n. Adds c.args.w (unpack 10 n []) c.unpack.result) (c.entry.ensures ∙ ap (λ i. get_or tails i 0) c.index.ensures.0) c.unpack.ensures
 
-pub tail-spec : {M : Type 1} → statement M
-tail-spec = tie.close (tie.spec cast-m index-requires entry-requires unpack-requires returns)
+pub tail_spec : {M : Type 1} → statement M
+tail_spec = tie.close (tie.spec cast-m index-requires entry-requires unpack-requires returns)

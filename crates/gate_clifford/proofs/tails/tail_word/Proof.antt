@@ -15,10 +15,10 @@ tail-requires c κs = search rules
 
 returns : tie.Need-returns
 returns c =
-    let s = c.before.before.args.s in
-    let e = c.before.empty.ensures in
+    let s = c.args.s in
+    let e = c.empty.ensures in
     let a = c.tail.ensures in
     record { letters = a.letters ∙ ap (λ l. l ++ bytes (tail s)) e.0; len = omega (arith, a.len, e.1); room = omega (arith, a.len, e.1, tail-short s) }
 
-pub tail-word-spec : {M : Type 1} → statement M
-tail-word-spec = tie.close (tie.spec empty-requires tail-requires returns)
+pub tail_word_spec : {M : Type 1} → statement M
+tail_word_spec = tie.close (tie.spec empty-requires tail-requires returns)

@@ -35,7 +35,7 @@ module _ (c : tie.Else-not-is_point) where
   s = start.args.s
 
   one : OnePoint s
-  one = one-point s (sym c.is_point.ensures ∙ not-false _ c.if-not-is_point.false)
+  one = one-point s (sym c.is_point.ensures ∙ c.if-not-is_point.false)
 
   limits : SliceLimits s
   limits = slice-limits s start.requires.0
@@ -99,7 +99,7 @@ returns-2 c =
     let h = q.quotient-h.result in
     let r = back w64 {z = h} q.quotient-h.type_inv in
     let l = ≺→≼ h i.args.d (lt_z_true h i.args.d (rw (r, to_z-of_z i.ranges.d) at c.if-h-d.true)) in
-    rw r (point-bounds (s (k m.before)) i.args.u i.args.v i.args.d h m.abs-w.result (one (k m)) (w-pos m) (rw (t-is m) at q.quotient-h.ensures) l i.pre.1)
+    rw r (point-bounds (s (k m.before)) i.args.u i.args.v i.args.d h m.abs-w.result (one (k m.before)) (w-pos m.before) (rw (t-is m.before) at q.quotient-h.ensures) l i.requires.1)
 
 returns-3 : tie.Need-returns-else-h-d
 returns-3 c = search rules

@@ -68,7 +68,7 @@ length-requires : tie.Need-length-m-requires
 length-requires c κs =
     let x = c.is_short in
     let y = c.is_short-2 in
-    ((limits c).n-high, leb-true _ 5000000 (sym x.ensures ∙ not-false _ c.if-not-is_short.false), leb-true _ 5000000 (sym y.ensures ∙ not-false _ c.if-not-is_short-2.false))
+    ((limits c).n-high, leb-true _ 5000000 (sym x.ensures ∙ not-false _ c.if-not-is_short.false), leb-true _ 5000000 (sym y.ensures ∙ c.if-not-is_short-2.false))
 
 w_fits : (c : tie.Else-not-is_short-2) → SFits w32 (s c).w
 w_fits c = search rules

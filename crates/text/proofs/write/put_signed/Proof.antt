@@ -33,7 +33,7 @@ returns c =
     let t = c in
     let m = t.before in
     let n = m.args.n in
-    rw (signed_decimal-neg n (rw (back m.before.before.before.before) at t.if-n-lt0.true), ← size m)
+    rw (signed_decimal-neg n (rw (back m.before.before.before.before) at t.if-n-lt0.true), ← size m.before.before.before.before)
     c.put_negative.ensures
 
 same-length-2 : tie.Need-shape_of-out-else-n-lt0
@@ -44,7 +44,7 @@ returns-2 c =
     let t = c in
     let m = t.before in
     let n = m.args.n in
-    rw (signed_decimal-not n (rw (back m.before.before.before.before) at t.if-n-lt0.false), ← size m)
+    rw (signed_decimal-not n (rw (back m.before.before.before.before) at t.if-n-lt0.false), ← size m.before.before.before.before)
     c.put_unsigned.ensures
 
 pub put_signed_spec : {M : Type 1} → statement M
