@@ -1,4 +1,4 @@
--- Gate words (SPEC, "Gate words"), from parities up.
+-- Gate words (SPEC, "Gate words"), from parities up. That the words spell what they are to (`Exact`) in normal form (`Tailed`) is proved in proofs/.
 pub mod Bits
 pub mod Odd
 pub mod Points
@@ -8,7 +8,4 @@ pub mod Table
 pub mod Bytes
 pub mod Word
 pub mod Matrix
-pub mod Exact
 pub mod Normal
-pub mod Tailed
-pub mod lemmas

@@ -1,2 +1,2 @@
--- Proved, and not to be read to believe it: nothing that a contract, or a claim of docs/PROOF.md, is stated with is defined in these files.
+-- What the lemmas of proofs/lemmas are stated with: nothing that a contract is stated with is defined in these files.
 pub mod Full

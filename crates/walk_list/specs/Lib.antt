@@ -1,3 +1,2 @@
--- `Walk` has the definitions; `Points` the ranks of points; `Full` the theorem about the full list; `Left` what is left of it from a rank on; `Count` how long it can be.
+-- `Walk` has the definitions. The theorems are in proofs/lemmas.
 pub mod Walk
-pub mod lemmas

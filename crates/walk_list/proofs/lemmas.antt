@@ -1,0 +1,4 @@
+pub mod Points
+pub mod Full
+pub mod Left
+pub mod Count

@@ -1,5 +1,0 @@
--- Proved, and not to be read to believe it: nothing that a contract, or a claim of docs/PROOF.md, is stated with is defined in these files.
-pub mod Points
-pub mod Full
-pub mod Left
-pub mod Count
