@@ -6,7 +6,7 @@ use Rattle.gate_theory.specs.declared.State.{State}
 use Rattle.gate_theory.specs.Table.{Letter, letter, unpack, tail}
 pub use Rattle.gate_theory.specs.Bytes.{byte, bytes, bytes-++, length-bytes}
 use Rattle.gate_theory.specs.Word.{body}
-use Rattle.gate_theory.specs.lemmas.Length.{body-length}
+use Rattle.gate_theory.proofs.lemmas.Length.{body-length}
 
 abbrev pub written : Word → List ℕ
 written w = take w.len w.letters

@@ -6,10 +6,10 @@ use Rattle.gate_theory.specs.declared.State.{State}
 use Rattle.gate_theory.specs.Bits.{odd, none}
 use Rattle.gate_theory.specs.Parities.{parities}
 use Rattle.gate_theory.specs.State.{is_plain, is_bare, plus, next, Stage, last, odds, sides, Ready, Narrow}
-use Rattle.gate_theory.specs.lemmas.Step.{step, next-even, next-not}
+use Rattle.gate_theory.proofs.lemmas.Step.{step, next-even, next-not}
 use Rattle.gate_theory.specs.Table.{tail}
 use Rattle.gate_theory.specs.Word.{syllable, syllables, bare_at_zero, body}
-use Rattle.gate_theory.specs.lemmas.Length.{narrow}
+use Rattle.gate_theory.proofs.lemmas.Length.{narrow}
 use Rattle.gates.specs.Written.{Word}
 use Rattle.gates.specs.lemmas.Fit.{shift_small}
 

@@ -10,9 +10,9 @@ use Rattle.gate_theory.specs.declared.State.{State}
 use Rattle.gate_theory.specs.State.{Equation, is_bare, next, Ready}
 use Rattle.gate_theory.specs.Table.{Letter, T, tail}
 use Rattle.gate_theory.specs.Word.{syllable, syllables, without-T, front, bare_at_zero, spelled, reduced, body, word}
-use Rattle.gate_theory.specs.lemmas.Least.{Least, reduced-least}
-use Rattle.gate_theory.specs.lemmas.Number.{starts, starts-T}
-use Rattle.gate_theory.specs.lemmas.Length.{stage_small, reduced-k, word-length}
+use Rattle.gate_theory.proofs.lemmas.Least.{Least, reduced-least}
+use Rattle.gate_theory.proofs.lemmas.Number.{starts, starts-T}
+use Rattle.gate_theory.proofs.lemmas.Length.{stage_small, reduced-k, word-length}
 use Rattle.gates.specs.Written.{Word, written, bytes, bytes-++, Adds, Writes}
 use Rattle.gates.specs.Going.{Going, body_more, body-none, goes}
 

@@ -12,7 +12,7 @@ use Rattle.ranks.specs.Digits.{pair-from}
 use Rattle.ranks.specs.Handed.{flat}
 use Rattle.ring_points.specs.Digits.{span, span-is}
 use Rattle.walk_list.specs.Walk.{full, listed_at, numbers_in}
-use Rattle.walk_list.specs.lemmas.Full.{full-rising}
+use Rattle.walk_list.proofs.lemmas.Full.{full-rising}
 use Rattle.list_lines.specs.Lines.{lines_of}
 use Rattle.list_segment.specs.Part.{chosen, within, part_lines}
 use Rattle.list_segment.specs.lemmas.Between.{between, chosen-same, inside, none_between, rising-joined}

@@ -19,7 +19,7 @@ use Rattle.gate_theory.specs.Table.{Letter}
 use Rattle.gate_theory.specs.Matrix.{Matrix, scale, product, Hs, ω^, Spells, made}
 use Rattle.gate_theory.specs.Matrix as W
 use Rattle.gate_theory.specs.Word.{Ts}
-use Rattle.gate_theory.specs.lemmas.Run.{run, product-run}
+use Rattle.gate_theory.proofs.lemmas.Run.{run, product-run}
 use Rattle.pattern_shortest.specs.declared.Pattern.TheVariants as P
 use Rattle.pattern_shortest.specs.Pattern.{at, pattern_of}
 use Rattle.pattern_shortest.specs.lemmas.Pair.{completed, over-both, step, m_rises}

@@ -15,7 +15,7 @@ use Rattle.ring_points.specs.Ascending.{Ascending, ascending, rest-passing}
 use Rattle.ring_points.specs.Slices.{points_of, flat-points}
 use Rattle.cuts.specs.Digits.{span}
 use Rattle.walk_list.specs.Walk.{point_of, listed_at, full}
-use Rattle.walk_list.specs.lemmas.Full.{full-holds, full-empty, listed-fits}
+use Rattle.walk_list.proofs.lemmas.Full.{full-holds, full-empty, listed-fits}
 use Rattle.operator.specs.declared.Operator.{Operator}
 use Rattle.session_model.specs.Session.{whole, plain, early, walking}
 use Rattle.session_model.specs.Session as Model

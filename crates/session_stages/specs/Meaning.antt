@@ -5,7 +5,7 @@ use Rattle.ring.specs.declared.Point.{Point}
 use Rattle.walk_list.specs.declared.Spot.{Spot}
 use Rattle.walk_list.specs.declared.Spot.TheVariants as P
 use Rattle.walk_list.specs.Walk.{point_of, rank_of, spot_of}
-use Rattle.walk_list.specs.lemmas.Points.{Fits32, point-rank}
+use Rattle.walk_list.proofs.lemmas.Points.{Fits32, point-rank}
 use Rattle.session_stages.specs.declared.Course.{Course}
 use Rattle.session_stages.specs.declared.Parts.{Parts}
 use Rattle.session_stages.specs.declared.Stage.{Stage}

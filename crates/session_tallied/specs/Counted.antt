@@ -19,7 +19,7 @@ use Rattle.ranks.specs.Handed.{flat, put}
 use Rattle.ranks.proofs.Handed.{flat_append, take_put, length-flat}
 use Rattle.cuts.specs.Digits.{span}
 use Rattle.walk_list.specs.Walk.{point_of, listed_at, numbers_in, full}
-use Rattle.walk_list.specs.lemmas.Count.{full-fewer}
+use Rattle.walk_list.proofs.lemmas.Count.{full-fewer}
 use Rattle.session_model.specs.Session.{Reading, refuse, accept, Stage, part, whole, Call, reading, handOut, rewind, clear, plain, image_of, shortest}
 use Rattle.session_model.specs.Session.{refused, taken, handed, done, says, best, early, walking, joined, remembered, given, found, step}
 use Rattle.session_model.specs.Session as Model

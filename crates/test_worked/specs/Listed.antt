@@ -17,7 +17,7 @@ use Rattle.ranks.specs.Handed.{flat}
 use Rattle.ring_points.specs.Points.{Fits32, point_of, rank_of, numbers_in, point-rank}
 use Rattle.ring_points.specs.Listed.{Listed, passing, all-unique}
 use Rattle.walk_list.specs.Walk.{full}
-use Rattle.walk_list.specs.lemmas.Full.{listed-fits}
+use Rattle.walk_list.proofs.lemmas.Full.{listed-fits}
 use Rattle.entry_equation.specs.Equation.{completes, top_scale}
 use Rattle.entry_equation.specs.Size.{Within, half, solution_within}
 use Rattle.entry.specs.Entry.{full as entries}

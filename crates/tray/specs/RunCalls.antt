@@ -22,8 +22,10 @@ use Rattle.tray_model.specs.End.{reported}
 use Rattle.tray_list.specs.declared.Tray.{Tray}
 use Rattle.tray_list.specs.Tray.{job_at, size, any_at, five_of, full}
 use Rattle.tray_list.specs.Own.{four_of}
-use Rattle.tray_list.specs.lemmas.Full.{listed_under, listed-by_fits, by_one, full-holds}
-use Rattle.tray_list.specs.Points.{fives_of, flat-fives}
+use Rattle.tray_list.specs.lemmas.Full.{listed_under}
+use Rattle.tray_list.proofs.lemmas.Full.{listed-by_fits, by_one, full-holds}
+use Rattle.tray_list.specs.Points.{fives_of}
+use Rattle.tray_list.proofs.Points.{flat-fives}
 use Rattle.tray_taking.specs.declared.Refusal.{Refusal}
 use Rattle.tray.specs.declared.Session.{Session}
 use Rattle.tray.specs.declared.Answer.TheVariants as A

@@ -20,7 +20,7 @@ use Rattle.walk_list.specs.Walk.{listed_at, rank_of, spot_of}
 use Rattle.walk_list.specs.Walk as One
 use Rattle.tray_list.specs.declared.Tray.{Tray}
 use Rattle.tray_list.specs.Tray.{some, bits, job_at, holds, size, any_at, mask_at, left}
-use Rattle.tray_list.specs.Bits.{some_of}
+use Rattle.tray_list.proofs.Bits.{some_of}
 use Rattle.tray_list.specs.Nearer.{nearer, is_at, at-hit, place-either, none_left}
 use Rattle.walk.specs.declared.Prepared.{Prepared}
 use Rattle.walk.specs.declared.Prepared.TheVariants as P

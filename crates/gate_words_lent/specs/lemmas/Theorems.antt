@@ -14,12 +14,12 @@ use Rattle.gate_theory.specs.Points.{turn}
 use Rattle.gate_theory.specs.Table.{Letter}
 use Rattle.gate_theory.specs.Word.{Ts}
 use Rattle.gate_theory.specs.Matrix.{Spells, made}
-use Rattle.gate_theory.specs.lemmas.Least.{equation_turn}
-use Rattle.gate_theory.specs.lemmas.Number.{least-Ts}
-use Rattle.gate_theory.specs.Exact as Exact
+use Rattle.gate_theory.proofs.lemmas.Least.{equation_turn}
+use Rattle.gate_theory.proofs.lemmas.Number.{least-Ts}
+use Rattle.gate_theory.proofs.Exact as Exact
 use Rattle.gate_theory.specs.Normal.{Normal}
-use Rattle.gate_theory.specs.Tailed.{normal}
-use Rattle.gate_theory.specs.lemmas.Only.{only_word}
+use Rattle.gate_theory.proofs.Tailed.{normal}
+use Rattle.gate_theory.proofs.lemmas.Only.{only_word}
 use Rattle.gates.specs.Written.{bytes, tally, tally-is}
 use Rattle.gate_words.specs.declared.Answer.TheVariants.{First, Second, Refused}
 use Rattle.gate_words.specs.declared.Refusal.TheVariants.{OutOfRange, NoRoom}

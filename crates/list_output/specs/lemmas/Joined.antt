@@ -7,7 +7,7 @@ use Rattle.ranks.proofs.Rest.{left-place}
 use Rattle.ranks.specs.Rank.{top}
 use Rattle.cuts.specs.Digits.{span}
 use Rattle.walk_list.specs.Walk.{listed_at, full}
-use Rattle.walk_list.specs.lemmas.Count.{full-fewer}
+use Rattle.walk_list.proofs.lemmas.Count.{full-fewer}
 use Rattle.session_model.specs.Session.{early, walking}
 use Rattle.list_input.specs.Load.{Loaded, ready, refused, tooLong, load_of}
 use Rattle.list_lines.specs.Lines.{lines_of, end_line}

@@ -7,9 +7,9 @@ use Rattle.ring.specs.Point.{◌+ω◌, ◌*ω◌, negω, numω, ω, ringω, *ω
 use Rattle.gate_theory.specs.Points.{dagger, back}
 use Rattle.gate_theory.specs.Table.{Letter, H, S, T, W}
 use Rattle.gate_theory.specs.Matrix.{Matrix, ◌·◌, scale, one, matrix, product, Hs, √2^, ω^, Spells, made, ext, prefixed-++, scale-scale}
-use Rattle.gate_theory.specs.lemmas.Letters.{ω-+, turn-back, W-made}
-use Rattle.gate_theory.specs.lemmas.Run.{ω_rest, made-rest}
-use Rattle.gate_theory.specs.lemmas.Spelled.{goes_on}
+use Rattle.gate_theory.proofs.lemmas.Letters.{ω-+, turn-back, W-made}
+use Rattle.gate_theory.proofs.lemmas.Run.{ω_rest, made-rest}
+use Rattle.gate_theory.proofs.lemmas.Spelled.{goes_on}
 use Rattle.gate_theory.specs.Word.{Ts}
 use Rattle.pattern_optimal.specs.lemmas.Equal.{Hs-++, assoc, one_right, factor, scale-times}
 

@@ -7,8 +7,8 @@ use Rattle.ring.specs.Point.{◌+ω◌, ◌*ω◌, numω, √2ω, ringω, *ω-as
 use Rattle.gate_theory.specs.Table.{Letter, H, S, T, W}
 use Rattle.gate_theory.specs.Matrix.{Matrix, ◌·◌, scale, one, matrix, prefixed, product, Hs, √2^, made, ext, times-scale, prefixed-++, scale-scale, scale-swap}
 use Rattle.gate_theory.specs.Normal.{Same}
-use Rattle.gate_theory.specs.lemmas.Cancel.{scale-cancel}
-use Rattle.gate_theory.specs.lemmas.Run.{run, product-run, root, scale-made, made-rest}
+use Rattle.gate_theory.proofs.lemmas.Cancel.{scale-cancel}
+use Rattle.gate_theory.proofs.lemmas.Run.{run, product-run, root, scale-made, made-rest}
 
 -- v over √2^(Hs v) is w over √2^(Hs w): times the same power of √2, on the left of every matrix
 pub record Equal (v w : List Letter) : Type 0 where

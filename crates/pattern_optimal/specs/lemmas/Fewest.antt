@@ -9,11 +9,11 @@ use Rattle.gate_theory.specs.Table.{Letter, H, S, T, W}
 use Rattle.gate_theory.specs.Matrix.{scale, ω^, Hs, Spells, made}
 use Rattle.gate_theory.specs.Word.{word, Ts}
 use Rattle.gate_theory.specs.Normal.{Same, Body, tails, syllabic, Normal, plainly, with-T}
-use Rattle.gate_theory.specs.lemmas.Number.{least-Ts}
-use Rattle.gate_theory.specs.Exact.{word-spells}
-use Rattle.gate_theory.specs.lemmas.Run.{run}
-use Rattle.gate_theory.specs.Tailed.{normal}
-use Rattle.gate_theory.specs.lemmas.Only.{same_of, only}
+use Rattle.gate_theory.proofs.lemmas.Number.{least-Ts}
+use Rattle.gate_theory.proofs.Exact.{word-spells}
+use Rattle.gate_theory.proofs.lemmas.Run.{run}
+use Rattle.gate_theory.proofs.Tailed.{normal}
+use Rattle.gate_theory.proofs.lemmas.Only.{same_of, only}
 use Rattle.pattern_optimal.specs.lemmas.Equal.{Equal, itself, then, before, beyond, of_same, to_same, rule}
 use Rattle.pattern_optimal.specs.lemmas.Unitary.{spells_equation}
 use Rattle.pattern_optimal.specs.lemmas.Closing.{closed, unphased}

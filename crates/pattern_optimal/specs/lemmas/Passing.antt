@@ -5,9 +5,9 @@ use Rattle.gate_theory.specs.Table.{Letter, H, S, T, W, tail}
 use Rattle.gate_theory.specs.Matrix.{of_state}
 use Rattle.gate_theory.specs.Word.{syllable, Ts, tail-Ts}
 use Rattle.gate_theory.specs.Normal.{Body, tails, syllabic}
-use Rattle.gate_theory.specs.lemmas.Base.{tail-spells}
-use Rattle.gate_theory.specs.Tailed.{clifford, tail-is}
-use Rattle.gate_theory.specs.lemmas.Only.{same_of}
+use Rattle.gate_theory.proofs.lemmas.Base.{tail-spells}
+use Rattle.gate_theory.proofs.Tailed.{clifford, tail-is}
+use Rattle.gate_theory.proofs.lemmas.Only.{same_of}
 use Rattle.pattern_optimal.specs.lemmas.Equal.{Equal, itself, then, before, beyond, of_same, rule}
 
 -- ---- the generators of what passes T

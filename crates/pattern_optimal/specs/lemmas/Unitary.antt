@@ -7,13 +7,13 @@ use Rattle.ring.specs.Point.{sum-parts}
 use Rattle.ring.specs.Point.Divide.{times-√2}
 use Rattle.gate_theory.specs.Points.{turn, N, F, minus_parts}
 use Rattle.gate_theory.specs.State.{Equation}
-use Rattle.gate_theory.specs.lemmas.Halving.{Halves, N-halves, F-halves, N-√2, F-√2, N-turn, F-turn}
-use Rattle.gate_theory.specs.lemmas.Equation.{equation_over}
-use Rattle.gate_theory.specs.lemmas.Least.{equation_turn}
+use Rattle.gate_theory.proofs.lemmas.Halving.{Halves, N-halves, F-halves, N-√2, F-√2, N-turn, F-turn}
+use Rattle.gate_theory.proofs.lemmas.Equation.{equation_over}
+use Rattle.gate_theory.proofs.lemmas.Least.{equation_turn}
 use Rattle.gate_theory.specs.Table.{Letter, H, S, T, W}
 use Rattle.gate_theory.specs.Word.{Ts}
 use Rattle.gate_theory.specs.Matrix.{Hs, scale, √2^, Spells, made}
-use Rattle.gate_theory.specs.lemmas.Run.{Column, act, run, product-run, root, scale-made}
+use Rattle.gate_theory.proofs.lemmas.Run.{Column, act, run, product-run, root, scale-made}
 
 twice : (n : ℕ) → 2 * 2 ^ n ≡ 2 ^ suc n
 twice n = omega (arith, pow-suc 2 n)

@@ -14,8 +14,8 @@ use Rattle.entry_equation.specs.Equation.{same, squares, cross, completes}
 use Rattle.entry_equation.specs.lemmas.Tests.{same_true, true_same}
 use Rattle.gate_theory.specs.Points.{N, F}
 use Rattle.gate_theory.specs.State.{Equation}
-use Rattle.gate_theory.specs.lemmas.Equation.{equation_over}
-use Rattle.gate_theory.specs.lemmas.Least.{t-over}
+use Rattle.gate_theory.proofs.lemmas.Equation.{equation_over}
+use Rattle.gate_theory.proofs.lemmas.Least.{t-over}
 
 -- ---- the equation, as the spelling has it
 squares-is : (v : Point) → squares v ≡ N v

@@ -5,8 +5,8 @@ use Rattle.ring.specs.declared.Point.{Point}
 use Rattle.record_ranges.specs.Ranges.{top_scale}
 use Rattle.entry_equation.specs.Equation.{completes}
 use Rattle.gate_theory.specs.Points.{turn}
-use Rattle.gate_theory.specs.lemmas.Least.{equation_turn}
-use Rattle.gate_theory.specs.lemmas.Length.{word-length}
+use Rattle.gate_theory.proofs.lemmas.Least.{equation_turn}
+use Rattle.gate_theory.proofs.lemmas.Length.{word-length}
 use Rattle.gate_words.specs.declared.Refusal.TheVariants.{OutOfRange, NotUnitary, NoRoom}
 use Rattle.gate_words.specs.declared.Answer.TheVariants.{First, Second, Refused}
 use Rattle.gate_words.specs.Words.{word_u, word_tUT, number, is_fewer, handed, fit, answer_of}

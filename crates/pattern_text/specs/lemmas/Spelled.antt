@@ -9,8 +9,8 @@ use Rattle.region.specs.declared.Job.{Job}
 use Rattle.region.specs.lemmas.Membership.{solves-true}
 use Rattle.gate_theory.specs.Points.{turn}
 use Rattle.gate_theory.specs.Word.{Ts}
-use Rattle.gate_theory.specs.lemmas.Least.{equation_turn}
-use Rattle.gate_theory.specs.lemmas.Length.{word-length}
+use Rattle.gate_theory.proofs.lemmas.Least.{equation_turn}
+use Rattle.gate_theory.proofs.lemmas.Length.{word-length}
 use Rattle.gate_words.specs.Words.{word_u, word_tUT, named, handed, answer_of}
 use Rattle.gate_words.specs.lemmas.Laws.{solves}
 use Rattle.gate_words_lent.specs.lemmas.Theorems.{handed-Ts}

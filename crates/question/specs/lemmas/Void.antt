@@ -8,8 +8,8 @@ use Rattle.region.specs.Region.{solves}
 use Rattle.region.specs.lemmas.Membership.{solves-true}
 use Rattle.region.specs.Void.{is_void, void_none}
 use Rattle.walk_list.specs.Walk.{full}
-use Rattle.walk_list.specs.lemmas.Full.{full-empty}
-use Rattle.walk_list.specs.lemmas.Left.{no_solution}
+use Rattle.walk_list.proofs.lemmas.Full.{full-empty}
+use Rattle.walk_list.proofs.lemmas.Left.{no_solution}
 
 empty : (j : Job) → ((v : Point) → solves j v ≡ true → ⊥) → false ≡ not (is_nil (full j))
 empty j h = sym (ap not (ap is_nil ((full-empty j).1 (λ v. no_solution j v (h v)))))

@@ -18,7 +18,8 @@ use Rattle.tray_model.specs.End.{reported, Complete}
 use Rattle.tray_model.proofs.End.{finished-all}
 use Rattle.tray_list.specs.declared.Tray.{Tray}
 use Rattle.tray_list.specs.Tray.{job_at, size, five_of, full}
-use Rattle.tray_list.specs.Own.{four_of, own-numbers}
+use Rattle.tray_list.specs.Own.{four_of}
+use Rattle.tray_list.proofs.Own.{own-numbers}
 use Rattle.tray.specs.Session.{world}
 
 abbrev Calls : Type 0

@@ -14,7 +14,7 @@ use Rattle.tray_merge.specs.declared.lanes.Source.{Source}
 use Rattle.tray_merge.specs.declared.lanes.Mark.{Mark}
 use Rattle.tray_merge.specs.Past.{Near, nearest_of}
 use Rattle.tray_merge.specs.Lanes.{source_at, mark_at, front_at, made-own, Within, Told', Stepped, Refilled, Lanes, Has, Stands, fronts_on, nearest_is, told-near, told-all, stands_on, step-mask, step-has, refilled, opened_within, opened_has, below_top}
-use Rattle.tray_list.specs.Bits.{bits_below}
+use Rattle.tray_list.proofs.Bits.{bits_below}
 use Rattle.tray_list.specs.Tray.{any_at, mask_at, five_of, left, size, holds, job_at}
 use Rattle.tray_list.specs.declared.Tray.{Tray}
 use Rattle.walk_list.specs.Walk.{rank_of, spot_of, numbers_in}

@@ -11,8 +11,8 @@ use Rattle.cuts.specs.Digits.{span, digit, digit-coordinate, digit-below, Digits
 use Rattle.cuts.specs.Level.{SomeA, start-A, end-A}
 use Rattle.cuts.specs.Range.{HasA, Covers}
 use Rattle.walk_list.specs.Walk.{left, rank_of}
-use Rattle.walk_list.specs.lemmas.Points.{Fits32, digits_rank}
-use Rattle.walk_list.specs.lemmas.Left.{left-top, listed-a}
+use Rattle.walk_list.proofs.lemmas.Points.{Fits32, digits_rank}
+use Rattle.walk_list.proofs.lemmas.Left.{left-top, listed-a}
 
 module _ (j : Job) (v : Point) (f : Fits32 v) (a : ℕ) (e : a ≡ digit v.a) (r : Range) (h : Covers (HasA j) a r) where
   digits : Digits a (digit v.b) (digit v.c) (digit v.d)

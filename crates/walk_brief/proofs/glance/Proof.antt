@@ -5,7 +5,7 @@ use Rattle.region.specs.Region.{accepted_job}
 use Rattle.region.specs.Decide.{not_accepted}
 use Rattle.region.specs.Selection.{unsolved}
 use Rattle.cuts.specs.Bounds.{ready}
-use Rattle.walk_list.specs.lemmas.Full.{full-empty}
+use Rattle.walk_list.proofs.lemmas.Full.{full-empty}
 use Rattle.walk_brief.specs.Brief.{has_none, whole-look}
 use borrow.Author.Rules.{rules}
 use Rattle.walk_brief.proofs.glance.Statement.{statement}

@@ -4,7 +4,7 @@ use Prim.Native.Nat.{◌-◌, ◌/◌, ◌%◌}
 use native.Mathlib.Omega.{arith}
 use Rattle.gate_theory.specs.Table.{letter, unpack as unpack'}
 use Rattle.gate_clifford.specs.Written.{written, byte, bytes, append-nil, unpack-none, unpack-zero, unpack-more, none-length, more-length}
-use Rattle.gate_theory.specs.lemmas.Length.{unpack-length}
+use Rattle.gate_theory.proofs.lemmas.Length.{unpack-length}
 use borrow.Author.Rules.{rules}
 use Prim.Native.Nat.{ℕ, ◌<◌}
 use borrow.Fn.Kinds.{In}

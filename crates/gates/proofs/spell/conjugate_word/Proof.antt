@@ -1,8 +1,8 @@
 use mathlib.Core.Path.{subst}
 use native.Mathlib.Omega.{arith}
 use Rattle.gate_theory.specs.Word.{word}
-use Rattle.gate_theory.specs.lemmas.Least.{equation_turn}
-use Rattle.gate_theory.specs.lemmas.Length.{narrow}
+use Rattle.gate_theory.proofs.lemmas.Least.{equation_turn}
+use Rattle.gate_theory.proofs.lemmas.Length.{narrow}
 use Rattle.gates.specs.Written.{Writes}
 use Rattle.gates.proofs.spell.conjugate_word.Statement.{statement}
 use Rattle.gates.proofs.spell.conjugate_word.Tie as tie

@@ -1,6 +1,6 @@
 use mathlib.Core.Path.{refl}
 use native.Mathlib.Omega.{arith}
-use Rattle.gate_theory.specs.lemmas.Length.{narrow}
+use Rattle.gate_theory.proofs.lemmas.Length.{narrow}
 use Rattle.gates.specs.lemmas.Fit.{state}
 use borrow.Author.Rules.{rules}
 use Rattle.gates.proofs.spell.without_t.Statement.{statement}

@@ -10,7 +10,7 @@ use Rattle.gate_theory.specs.Points.{back, halved}
 use Rattle.gate_theory.specs.Parities.{parities}
 use Rattle.gate_theory.specs.declared.State.{State}
 use Rattle.gate_theory.specs.State.{Narrow, is_bare, unturn, plus, less}
-use Rattle.gate_theory.specs.lemmas.Step.{shift, next-even, next-not}
+use Rattle.gate_theory.proofs.lemmas.Step.{shift, next-even, next-not}
 use Rattle.gates.specs.lemmas.Fit.{narrow_unturn, less-halved, less-halves, state, shift_small}
 use borrow.Author.Rules.{rules}
 use Rattle.gates.proofs.states.next.Statement.{statement}

@@ -4,7 +4,7 @@ use native.Mathlib.Omega.{arith}
 use borrow.Author.Rules.{rules}
 use Rattle.cuts.specs.Digits.{digit}
 use Rattle.cuts.specs.Level.{span_pos}
-use Rattle.walk_list.specs.lemmas.Points.{Fits32}
+use Rattle.walk_list.proofs.lemmas.Points.{Fits32}
 use Rattle.walk_list.specs.Walk.{left, rank_of}
 use Rattle.tray_merge.specs.lemmas.Floor.{floor-none, floor-at}
 use Rattle.tray_merge.proofs.floor.raised.Statement.{statement}

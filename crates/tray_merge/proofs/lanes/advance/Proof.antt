@@ -4,7 +4,7 @@ use native.Mathlib.Nat.{pow-suc, pow-le-pow_right}
 use native.Mathlib.Numerals.{add-one}
 use native.Mathlib.Omega.{arith}
 use borrow.Author.Rules.{rules}
-use Rattle.tray_list.specs.Bits.{bits_below}
+use Rattle.tray_list.proofs.Bits.{bits_below}
 use lib.ListN.{length, set}
 use Rattle.tray_list.specs.Nearer.{nearer, is_at}
 use Rattle.walk_list.specs.Walk.{rank_of, spot_of}
