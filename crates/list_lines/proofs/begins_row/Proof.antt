@@ -18,11 +18,11 @@ heads : (u v : Point) → u.a ≡ v.a → u.b ≡ v.b → u.c ≡ v.c → head_t
 unfolding head_text
 heads u v e f g = rw (e, f, g) refl
 
-returns : tie.Need-returns
+returns : tie.Need-returns-then-u-v-3
 returns c e =
-    let t = c.before.before.before.before.before in
-    let s = t.before.before.before.before.before in
-    let o = s.before.before.before.before.before in
+    let t = c in
+    let s = t in
+    let o = s in
     let u = o.args.u in
     let v = o.args.v in
     let ua : SFits w32 u.a = search rules in
@@ -31,16 +31,16 @@ returns c e =
     let va : SFits w32 v.a = search rules in
     let vb : SFits w32 v.b = search rules in
     let vc : SFits w32 v.c = search rules in
-    heads u v (same u.a v.a ua va s.if1.true) (same u.b v.b ub vb t.if2.true) (same u.c v.c uc vc c.if3.true)
+    heads u v (same u.a v.a ua va s.if-u-v.true) (same u.b v.b ub vb t.if-u-v-2.true) (same u.c v.c uc vc c.if-u-v-3.true)
 
-returns-2 : tie.Need-returns-2
+returns-2 : tie.Need-returns-else-u-v-3
 returns-2 c e = absurd (false≢true (sym e))
 
-returns-3 : tie.Need-returns-3
+returns-3 : tie.Need-returns-else-u-v-2
 returns-3 c e = absurd (false≢true (sym e))
 
-returns-4 : tie.Need-returns-4
+returns-4 : tie.Need-returns-else-u-v
 returns-4 c e = absurd (false≢true (sym e))
 
-pub begins-row-spec : {M : Type 1} → statement M
-begins-row-spec = tie.close (tie.spec returns returns-2 returns-3 returns-4)
+pub begins_row_spec : {M : Type 1} → statement M
+begins_row_spec = tie.close (tie.spec returns returns-2 returns-3 returns-4)

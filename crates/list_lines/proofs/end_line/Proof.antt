@@ -16,19 +16,16 @@ use borrow.Author.Rules.{rules}
 use Rattle.list_lines.proofs.end_line.Statement.{statement}
 use Rattle.list_lines.proofs.end_line.Tie as tie
 
-slice-aggregate-put-bytes : tie.Need-slice-aggregate-put-bytes
-slice-aggregate-put-bytes c = search rules
-
-put-bytes-requires : tie.Need-put-bytes-requires
+put-bytes-requires : tie.Need-put_bytes-a-requires
 put-bytes-requires c κs = search rules
 
-put-wide-requires : tie.Need-put-wide-requires
+put-wide-requires : tie.Need-put_wide-b-requires
 put-wide-requires c κs = search rules
 
-put-byte-requires : tie.Need-put-byte-requires
+put-byte-requires : tie.Need-put_byte-requires
 put-byte-requires c κs = search rules
 
-same_length : tie.Need-same-length
+same_length : tie.Need-shape_of-line
 same_length c = search rules
 
 abbrev word : List ℕ
@@ -37,35 +34,28 @@ word = 101 ∷ 110 ∷ 100 ∷ 32 ∷ []
 returns : tie.Need-returns
 unfolding end_line count_text
 returns c =
-    let b = c.before.before in
-    let w = b.before.before.before.before in
-    let p = w.before.before.before.before in
-    let s = p.before.before.before.before in
+    let b = c in
+    let w = b in
+    let p = w in
+    let s = p in
     let xs = s.args.line.now in
     let pre = s.requires in
     let v = size_of s.args.n in
     let h : Fits w64 s.args.n.hi = search rules in
     let l : Fits w64 s.args.n.lo = search rules in
     let d = decimal-length 38 v (value-below s.args.n h.fits l.fits) in
-    let a = appended xs 0 word p.put-bytes.new.0 p.put-bytes.result (omega arith) p.put-bytes.ensures.0 p.put-bytes.ensures.1 in
+    let a = appended xs 0 word p.put_bytes-a.new.0 p.put_bytes-a.result (omega arith) p.put_bytes-a.ensures.0 p.put_bytes-a.ensures.1 in
     let e = a.end in
     let m = a.same in
     let q =
-    marked p.put-bytes.new.0 p.put-bytes.result (decimal v) 10 39 w.put-wide.new.0 b.put_byte.new.0 w.put-wide.result b.put_byte.result d (omega arith)
-    w.put-wide.ensures
+    marked p.put_bytes-a.new.0 p.put_bytes-a.result (decimal v) 10 39 w.put_wide-b.new.0 b.put_byte.new.0 w.put_wide-b.result b.put_byte.result d (omega arith)
+    w.put_wide-b.ensures
     b.put_byte.ensures in
-    let all = append-more xs 0 word (decimal v ++ (10 ∷ [])) p.put-bytes.new.0 b.put_byte.new.0 p.put-bytes.result b.put_byte.result a q.0 in
+    let all = append-more xs 0 word (decimal v ++ (10 ∷ [])) p.put_bytes-a.new.0 b.put_byte.new.0 p.put_bytes-a.result b.put_byte.result a q.0 in
     let f = all.same in
     let g = q.1 in
     (all, (omega arith, sym (length-take-le b.put_byte.result b.put_byte.new.0 (omega arith))))
 
-pub end-line-spec : {M : Type 1} → statement M
-end-line-spec =
-    tie.close
-    (tie.spec
-    slice-aggregate-put-bytes
-    put-bytes-requires
-    put-wide-requires
-    put-byte-requires
-    same_length
-    returns)
+pub end_line_spec : {M : Type 1} → statement M
+end_line_spec =
+    tie.close (tie.spec put-bytes-requires put-wide-requires put-byte-requires same_length returns)

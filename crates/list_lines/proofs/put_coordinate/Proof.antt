@@ -26,37 +26,37 @@ short (negsuc n) h = let l = decimal-length 9 (suc n) (lt_of_lt_of_le {m = 2 ^ 3
 fits : (s : tie.Start) → mag s.args.z < 2 ^ 63
 fits s = let h : SFits w32 s.args.z = search rules in lt_of_lt_of_le h.sfits (lit≤ tt)
 
-cast-put-signed : tie.Need-overflow-cast-put-signed
+cast-put-signed : tie.Need-overflow_cast-z
 cast-put-signed c =
     let s = c.before.before in
     let h : SFits w32 s.args.z = search rules in
     rw (to_z-of_z h) (record { sfits = fits s })
 
-put-signed-requires : tie.Need-put-signed-requires
+put-signed-requires : tie.Need-put_signed-end-requires
 put-signed-requires c κs = search rules
 
-put-byte-requires : tie.Need-put-byte-requires
+put-byte-requires : tie.Need-put_byte-requires
 put-byte-requires c κs = search rules
 
-same_length : tie.Need-same-length
+same_length : tie.Need-shape_of-out
 same_length c = search rules
 
 returns : tie.Need-returns
 unfolding coordinate_text
 returns c =
-    let b = c.before.before in
-    let u = b.before.before.before.before in
+    let b = c in
+    let u = b in
     let s = u.before.before.before in
     let h : SFits w32 s.args.z = search rules in
     let g : SFits w64 s.args.z = record { sfits = fits s } in
     let m =
-    marked s.args.out.now s.args.at (signed_decimal s.args.z) 32 11 u.put-signed.new.0 b.put_byte.new.0 u.put-signed.result b.put_byte.result
+    marked s.args.out.now s.args.at (signed_decimal s.args.z) 32 11 u.put_signed-end.new.0 b.put_byte.new.0 u.put_signed-end.result b.put_byte.result
     (short s.args.z h.sfits)
     (omega arith)
-    (rw (to_z-of_z h, to_z-of_z g) at u.put-signed.ensures)
+    (rw (to_z-of_z h, to_z-of_z g) at u.put_signed-end.ensures)
     b.put_byte.ensures in
     (m.0, omega arith)
 
-pub put-coordinate-spec : {M : Type 1} → statement M
-put-coordinate-spec =
+pub put_coordinate_spec : {M : Type 1} → statement M
+put_coordinate_spec =
     tie.close (tie.spec cast-put-signed put-signed-requires put-byte-requires same_length returns)

@@ -19,119 +19,119 @@ use Rattle.list_lines.proofs.put_points.Tie as tie
 abbrev Spelled : List ℕ → ℕ → Point → Type 0
 Spelled h m v = (length h ≡ 36) × (m ≤ 36) × (take m h ≡ head_text v)
 
-abbrev invariant-loop : tie.invariant-loop
+abbrev invariant-loop : tie.invariant-loop-i
 invariant-loop out₀ points n k last₀ head₀ length₀ at₀ i₀ out last head m at i = (i ≤ n) × (at ≤ 70 * i) × Appended out₀ 0 (lines_of k (take (4 * i) points)) out at × Spelled head m last
 
-abbrev decreases-loop : tie.decreases-loop
+abbrev decreases-loop : tie.decreases-loop-i
 decreases-loop out₀ points n k last₀ head₀ length₀ at₀ i₀ out last head m at i = n - i
 
 -- in the loop there is a point and room for its line
-module _ (c : tie.In-loop invariant-loop decreases-loop) where
+module _ (c : tie.In-loop-i invariant-loop decreases-loop) where
   abbrev start : tie.Start invariant-loop decreases-loop
   start = c.before.before.before.before.before.before
 
-  there : 4 * c.before.loop.i + 4 ≤ length start.args.points.now
-  there = let p = start.pre.0 in let h = c.loop-test.true in omega arith
+  there : 4 * c.loop-i.i + 4 ≤ length start.args.points.now
+  there = let p = start.requires.0 in let h = c.loop-i-test.true in omega arith
 
-  room : c.before.loop.at + 70 ≤ length c.before.loop.out
+  room : c.loop-i.at + 70 ≤ length c.loop-i.out-1
   room =
-      let p = start.pre.1 in
-      let h = c.loop-test.true in
-      let b = c.before.loop.invariant.1 in
-      let s = c.before.loop.invariant.2.same in
+      let p = start.requires.1 in
+      let h = c.loop-i-test.true in
+      let b = c.loop-i.invariant.1 in
+      let s = c.loop-i.invariant.2.same in
       omega arith
 
 -- the head is that of the point, kept or spelled anew
-spelled : (j : tie.Joined1 invariant-loop decreases-loop) → Spelled j.if1.head j.if1.length j.before.before.point_at.result
+spelled : (j : tie.Joined-begins_row invariant-loop decreases-loop) → Spelled j.if-begins_row.head-1 j.if-begins_row.length j.point_at-v.result
 spelled j =
-    let p = j.before.before in
-    let i = p.before.before.loop.invariant.3 in
-    let v = p.point_at.result in
+    let p = j in
+    let i = p.loop-i.invariant.3 in
+    let v = p.point_at-v.result in
     ⊎_elim
     (λ w. subst₂ (λ (h : List ℕ) (m : ℕ). Spelled h m v) (sym w.4) (sym w.5) (w.2.ensures.0.same ∙ i.0, w.2.ensures.1, w.2.ensures.0.text))
-    (λ w. subst₂ (λ (h : List ℕ) (m : ℕ). Spelled h m v) (sym w.1) (sym w.2) (i.0, i.1, i.2 ∙ j.before.begins-row.ensures w.0.left))
-    j.if1.branch
+    (λ w. subst₂ (λ (h : List ℕ) (m : ℕ). Spelled h m v) (sym w.1) (sym w.2) (i.0, i.1, i.2 ∙ j.begins_row.ensures w.0.left))
+    j.if-begins_row.branch
 
-slice-aggregate-put-head : tie.Need-slice-aggregate-put-head invariant-loop decreases-loop
+slice-aggregate-put-head : tie.Need-slice_bounds-put_head-end invariant-loop decreases-loop
 slice-aggregate-put-head c = search rules
 
-put-head-requires : tie.Need-put-head-requires invariant-loop decreases-loop
+put-head-requires : tie.Need-put_head-length-requires invariant-loop decreases-loop
 put-head-requires c κs = search rules
 
-loop-holds : tie.Need-loop-init invariant-loop decreases-loop
+loop-holds : tie.Need-loop-i-init invariant-loop decreases-loop
 loop-holds c =
-    let h = c.before in
-    let s = h.before.before.before in
-    let e = h.put-head.ensures in
+    let h = c in
+    let s = h in
+    let e = h.put_head-length.ensures in
     (omega arith, omega arith, lines_none s.args.k s.args.points.now s.args.out.now, (e.0.same, e.1, e.0.text))
 
-point-at-requires : tie.Need-point-at-requires invariant-loop decreases-loop
+point-at-requires : tie.Need-point_at-v-requires invariant-loop decreases-loop
 point-at-requires c κs = there c
 
-begins-row-requires : tie.Need-begins-row-requires invariant-loop decreases-loop
+begins-row-requires : tie.Need-begins_row-requires invariant-loop decreases-loop
 begins-row-requires c κs = search rules
 
-slice-aggregate-put-head-2 : tie.Need-slice-aggregate-put-head-2 invariant-loop decreases-loop
+slice-aggregate-put-head-2 : tie.Need-slice_bounds-put_head-end-then-begins_row invariant-loop decreases-loop
 slice-aggregate-put-head-2 c = search rules
 
-put-head-requires-2 : tie.Need-put-head-requires-2 invariant-loop decreases-loop
-put-head-requires-2 c κs = c.before.before.before.before.before.loop.invariant.3.0
+put-head-requires-2 : tie.Need-put_head-length-requires-then-begins_row invariant-loop decreases-loop
+put-head-requires-2 c κs = c.loop-i.invariant.3.0
 
-array-share-prefix-head : tie.Need-array-share-prefix-head invariant-loop decreases-loop
+array-share-prefix-head : tie.Need-slice_bounds-head-end invariant-loop decreases-loop
 array-share-prefix-head c = let p = spelled c.before in search rules
 
-slice-aggregate-put-point : tie.Need-slice-aggregate-put-point invariant-loop decreases-loop
+slice-aggregate-put-point : tie.Need-slice_bounds-put_point-end invariant-loop decreases-loop
 slice-aggregate-put-point c =
     let j = c.before.before in
     let p = spelled j in
     let l = p.0 in
     let b = p.1 in
-    let e : j.if1.length ≡ length (take j.if1.length j.if1.head) = sym (length-take-le j.if1.length j.if1.head (omega arith)) in
+    let e : j.if-begins_row.length ≡ length (take j.if-begins_row.length j.if-begins_row.head-1) = sym (length-take-le j.if-begins_row.length j.if-begins_row.head-1 (omega arith)) in
     search rules
 
-put-point-requires : tie.Need-put-point-requires invariant-loop decreases-loop
+put-point-requires : tie.Need-put_point-at-requires invariant-loop decreases-loop
 put-point-requires c κs =
     let j = c.before.before in
     let p = spelled j in
-    let l = length-take j.if1.length j.if1.head in
-    let m = min-le_left j.if1.length (length j.if1.head) in
+    let l = length-take j.if-begins_row.length j.if-begins_row.head-1 in
+    let m = min-le_left j.if-begins_row.length (length j.if-begins_row.head-1) in
     let b = p.1 in
     (room j.before.before.before, p.2, omega arith)
 
-add-i : tie.Need-overflow-add-i invariant-loop decreases-loop
+add-i : tie.Need-overflow_add-i invariant-loop decreases-loop
 add-i c = search rules
 
-loop-less : tie.Need-loop-smaller invariant-loop decreases-loop
+loop-less : tie.Need-loop-i-smaller invariant-loop decreases-loop
 loop-less c = search rules
 
-loop-again : tie.Need-loop-preserved invariant-loop decreases-loop
+loop-again : tie.Need-loop-i-preserved invariant-loop decreases-loop
 loop-again c =
-    let q = c.before.before in
+    let q = c in
     let j = q.before.before.before in
-    let v = j.before.before in
+    let v = j in
     let l = v.before in
     let t = l.before in
     let s = start l in
-    let b = q.put-point.ensures.1 in
-    let a = t.loop.invariant.1 in (
+    let b = q.put_point-at.ensures.1 in
+    let a = t.loop-i.invariant.1 in (
       omega arith,
       omega arith,
-      lines_next s.args.k s.args.points.now t.loop.i v.point_at.result s.args.out.now t.loop.out q.put-point.new.0 t.loop.at q.put-point.result (there l) v.point_at.ensures t.loop.invariant.2 q.put-point.ensures.0,
+      lines_next s.args.k s.args.points.now t.loop-i.i v.point_at-v.result s.args.out.now t.loop-i.out-1 q.put_point-at.new.0 t.loop-i.at q.put_point-at.result (there l) v.point_at-v.ensures t.loop-i.invariant.2 q.put_point-at.ensures.0,
       spelled j,
     )
 
-same_length : tie.Need-same-length invariant-loop decreases-loop
-same_length c = c.before.loop.invariant.2.same
+same_length : tie.Need-shape_of-out invariant-loop decreases-loop
+same_length c = c.loop-i.invariant.2.same
 
 returns : tie.Need-returns invariant-loop decreases-loop
 returns c =
-    let t = c.before in
-    let s = t.before.before.before.before.before in
-    let e : t.loop.i ≡ s.args.n = omega arith in
-    subst (λ (i : ℕ). Appended s.args.out.now 0 (lines_of s.args.k (take (4 * i) s.args.points.now)) t.loop.out t.loop.at) e t.loop.invariant.2
+    let t = c in
+    let s = t in
+    let e : t.loop-i.i ≡ s.args.n = omega arith in
+    subst (λ (i : ℕ). Appended s.args.out.now 0 (lines_of s.args.k (take (4 * i) s.args.points.now)) t.loop-i.out-1 t.loop-i.at) e t.loop-i.invariant.2
 
-pub put-points-spec : {M : Type 1} → statement M
-put-points-spec =
+pub put_points_spec : {M : Type 1} → statement M
+put_points_spec =
     tie.close
     (tie.spec
     invariant-loop

@@ -25,71 +25,71 @@ two n mark h k = rw (decimal-two n h k) refl
 add-two : (n : ℕ) → n + 2 ≡ suc (suc n)
 add-two n = omega arith
 
-add-out : tie.Need-overflow-add-out
+add-out : tie.Need-overflow_add-out
 add-out c = search rules
 
-slice-write-out : tie.Need-slice-write-out
+slice-write-out : tie.Need-bounds-out-at
 slice-write-out c = search rules
 
-add-out-2 : tie.Need-overflow-add-out-2
+add-out-2 : tie.Need-overflow_add-out-then-n-lt10
 add-out-2 c = search rules
 
-slice-write-out-2 : tie.Need-slice-write-out-2
+slice-write-out-2 : tie.Need-bounds-out-at-then-n-lt10
 slice-write-out-2 c = simp length-set (omega arith)
 
-add-result : tie.Need-overflow-add-result
+add-result : tie.Need-overflow_add-result
 add-result c = search rules
 
-same_length : tie.Need-same-length
+same_length : tie.Need-shape_of-out-then-n-lt10
 same_length c = search rules
 
-returns : tie.Need-returns
+returns : tie.Need-returns-then-n-lt10
 returns c =
-    let s = c.before in
+    let s = c in
     let xs = s.args.out.now in
     let at = s.args.at in
     let ds = (48 + s.args.n) ∷ s.args.mark ∷ [] in
     let w = put-fits xs at ds (omega arith) in
     (rw (one s.args.n s.args.mark (omega arith)) (appended xs at ds _ _ (omega arith) (rw add-one (sets-eq ds xs at (omega arith)) ∙ w.0) w.1), omega arith)
 
-add-out-3 : tie.Need-overflow-add-out-3
+add-out-3 : tie.Need-overflow_add-out-2
 add-out-3 c = search rules
 
-slice-write-out-3 : tie.Need-slice-write-out-3
+slice-write-out-3 : tie.Need-bounds-out-at-2
 slice-write-out-3 c = search rules
 
-add-out-4 : tie.Need-overflow-add-out-4
+add-out-4 : tie.Need-overflow_add-out-3
 add-out-4 c = search rules
 
-add-out-5 : tie.Need-overflow-add-out-5
+add-out-5 : tie.Need-overflow_add-out-4
 add-out-5 c = search rules
 
-slice-write-out-4 : tie.Need-slice-write-out-4
+slice-write-out-4 : tie.Need-bounds-out-at-3
 slice-write-out-4 c = simp length-set (omega arith)
 
-add-out-6 : tie.Need-overflow-add-out-6
+add-out-6 : tie.Need-overflow_add-out-5
 add-out-6 c = search rules
 
-slice-write-out-5 : tie.Need-slice-write-out-5
+slice-write-out-5 : tie.Need-bounds-out-at-4
 slice-write-out-5 c = simp length-set (omega arith)
 
-add-result-2 : tie.Need-overflow-add-result-2
+add-result-2 : tie.Need-overflow_add-result-2
 add-result-2 c = search rules
 
-same-length-2 : tie.Need-same-length-2
+same-length-2 : tie.Need-shape_of-out
 same-length-2 c = search rules
 
-returns-2 : tie.Need-returns-2
+returns-2 : tie.Need-returns
 returns-2 c =
-    let s = c.before in
+    let s = c in
     let xs = s.args.out.now in
     let at = s.args.at in
     let ds = (48 + s.args.n / 10) ∷ (48 + s.args.n % 10) ∷ s.args.mark ∷ [] in
     let w = put-fits xs at ds (omega arith) in
     (rw (two s.args.n s.args.mark (omega arith) (omega arith)) (appended xs at ds _ _ (omega arith) (rw (add-one, add-two) (sets-eq ds xs at (omega arith)) ∙ w.0) w.1), omega arith)
 
-pub put-small-spec : {M : Type 1} → statement M
-put-small-spec =
+pub put_small_spec : {M : Type 1} → statement M
+put_small_spec =
     tie.close
     (tie.spec
     add-out

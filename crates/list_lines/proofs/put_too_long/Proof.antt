@@ -3,17 +3,14 @@ use borrow.Author.Rules.{rules}
 use Rattle.list_lines.proofs.put_too_long.Statement.{statement}
 use Rattle.list_lines.proofs.put_too_long.Tie as tie
 
-slice-aggregate-put-bytes : tie.Need-slice-aggregate-put-bytes
-slice-aggregate-put-bytes c = search rules
-
-put-bytes-requires : tie.Need-put-bytes-requires
+put-bytes-requires : tie.Need-put_bytes-requires
 put-bytes-requires c κs = search rules
 
-same_length : tie.Need-same-length
+same_length : tie.Need-shape_of-out
 same_length c = search rules
 
 returns : tie.Need-returns
-returns c = c.before.before.put-bytes.ensures
+returns c = c.put_bytes.ensures
 
-pub put-too-long-spec : {M : Type 1} → statement M
-put-too-long-spec = tie.close (tie.spec slice-aggregate-put-bytes put-bytes-requires same_length returns)
+pub put_too_long_spec : {M : Type 1} → statement M
+put_too_long_spec = tie.close (tie.spec put-bytes-requires same_length returns)

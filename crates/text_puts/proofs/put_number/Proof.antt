@@ -9,36 +9,36 @@ use borrow.Author.Rules.{rules}
 use Rattle.text_puts.proofs.put_number.Statement.{statement}
 use Rattle.text_puts.proofs.put_number.Tie as tie
 
-put-bytes-requires : tie.Need-put-bytes-requires
+put-bytes-requires : tie.Need-put_bytes-a-requires
 put-bytes-requires c κs = search rules
 
-put-byte-requires : tie.Need-put-byte-requires
+put-byte-requires : tie.Need-put_byte-b-requires
 put-byte-requires c κs = search rules
 
-put-unsigned-requires : tie.Need-put-unsigned-requires
+put-unsigned-requires : tie.Need-put_unsigned-c-requires
 put-unsigned-requires c κs = search rules
 
-put-byte-requires-2 : tie.Need-put-byte-requires-2
+put-byte-requires-2 : tie.Need-put_byte-requires
 put-byte-requires-2 c κs = search rules
 
-same_length : tie.Need-same-length
+same_length : tie.Need-shape_of-out
 same_length c = search rules
 
 returns : tie.Need-returns
 returns c =
-    let d = c.before.before in
-    let u = d.before.before.before.before in
-    let b = u.before.before.before.before in
-    let a = b.before.before.before.before in
-    let s = a.before.before.before.before in
+    let d = c in
+    let u = d in
+    let b = u in
+    let a = b in
+    let s = a in
     weaken _ (omega arith) (join (join (join
-    (one s.args.out.now s.args.at s.args.name.now a.put-bytes.new.0 a.put-bytes.result (length s.args.name.now) (omega arith) a.put-bytes.ensures)
-    (one a.put-bytes.new.0 a.put-bytes.result (32 ∷ []) b.put_byte.new.0 b.put_byte.result 1 (lit≤ tt) b.put_byte.ensures))
-    (one b.put_byte.new.0 b.put_byte.result (decimal s.args.n) u.put-unsigned.new.0 u.put-unsigned.result 20 (unsigned_length s.args.n s.ranges.n.fits) u.put-unsigned.ensures))
-    (one u.put-unsigned.new.0 u.put-unsigned.result (10 ∷ []) d.put-byte2.new.0 d.put-byte2.result 1 (lit≤ tt) d.put-byte2.ensures))
+    (one s.args.out.now s.args.at s.args.name.now a.put_bytes-a.new.0 a.put_bytes-a.result (length s.args.name.now) (omega arith) a.put_bytes-a.ensures)
+    (one a.put_bytes-a.new.0 a.put_bytes-a.result (32 ∷ []) b.put_byte-b.new.0 b.put_byte-b.result 1 (lit≤ tt) b.put_byte-b.ensures))
+    (one b.put_byte-b.new.0 b.put_byte-b.result (decimal s.args.n) u.put_unsigned-c.new.0 u.put_unsigned-c.result 20 (unsigned_length s.args.n s.ranges.n.fits) u.put_unsigned-c.ensures))
+    (one u.put_unsigned-c.new.0 u.put_unsigned-c.result (10 ∷ []) d.put_byte.new.0 d.put_byte.result 1 (lit≤ tt) d.put_byte.ensures))
 
-pub put-number-spec : {M : Type 1} → statement M
-put-number-spec =
+pub put_number_spec : {M : Type 1} → statement M
+put_number_spec =
     tie.close
     (tie.spec
     put-bytes-requires

@@ -3,29 +3,29 @@ use borrow.Author.Rules.{rules}
 use Rattle.text_puts.proofs.put_word.Statement.{statement}
 use Rattle.text_puts.proofs.put_word.Tie as tie
 
-put-byte-requires : tie.Need-put-byte-requires
+put-byte-requires : tie.Need-put_byte-requires
 put-byte-requires c κs = search rules
 
-put-bytes-requires : tie.Need-put-bytes-requires
+put-bytes-requires : tie.Need-put_bytes-requires
 put-bytes-requires c κs = search rules
 
-same_length : tie.Need-same-length
+same_length : tie.Need-shape_of-out-then-word-eq0
 same_length c = search rules
 
-returns : tie.Need-returns
+returns : tie.Need-returns-then-word-eq0
 returns c =
-    let p = c.before.before in
-    let t = p.before.before in
-    rw (shown-none t.before.before.before.args.word.now t.if1.true) p.put_byte.ensures
+    let p = c in
+    let t = p in
+    rw (shown-none t.args.word.now t.if-word-eq0.true) p.put_byte.ensures
 
-same-length-2 : tie.Need-same-length-2
+same-length-2 : tie.Need-shape_of-out-else-word-eq0
 same-length-2 c = search rules
 
-returns-2 : tie.Need-returns-2
+returns-2 : tie.Need-returns-else-word-eq0
 returns-2 c =
-    let p = c.before.before in
-    let t = p.before.before in
-    rw (shown-some t.before.before.before.args.word.now t.if1.false) p.put-bytes.ensures
+    let p = c in
+    let t = p in
+    rw (shown-some t.args.word.now t.if-word-eq0.false) p.put_bytes.ensures
 
-pub put-word-spec : {M : Type 1} → statement M
-put-word-spec = tie.close (tie.spec put-byte-requires put-bytes-requires same_length returns same-length-2 returns-2)
+pub put_word_spec : {M : Type 1} → statement M
+put_word_spec = tie.close (tie.spec put-byte-requires put-bytes-requires same_length returns same-length-2 returns-2)

@@ -4,15 +4,12 @@ use Rattle.text_words.specs.Names.{words_of}
 use Rattle.text_words.proofs.command_of.Statement.{statement}
 use Rattle.text_words.proofs.command_of.Tie as tie
 
-slice-aggregate-place-of : tie.Need-slice-aggregate-place-of
-slice-aggregate-place-of c = search rules
-
-place-of-requires : tie.Need-place-of-requires
+place-of-requires : tie.Need-place_of-requires
 place-of-requires c κs = search rules
 
 returns : tie.Need-returns
 unfolding words_of
 returns c = c.place_of.ensures
 
-pub command-of-spec : {M : Type 1} → statement M
-command-of-spec = tie.close (tie.spec slice-aggregate-place-of place-of-requires returns)
+pub command_of_spec : {M : Type 1} → statement M
+command_of_spec = tie.close (tie.spec place-of-requires returns)

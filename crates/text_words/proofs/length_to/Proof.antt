@@ -12,26 +12,26 @@ use borrow.Author.Rules.{rules}
 use Rattle.text_words.proofs.length_to.Statement.{statement}
 use Rattle.text_words.proofs.length_to.Tie as tie
 
-good : (c : tie.Else1) → non_neg c.before.before.args.n ≡ true
-good c = sym (rw (to_z-of_z c.before.before.ranges.n) at c.before.is-nonneg.ensures) ∙ not-false _ c.if1.false
+good : (c : tie.Else-not-is_nonneg) → non_neg c.args.n ≡ true
+good c = sym (rw (to_z-of_z c.ranges.n) at c.is_nonneg.ensures) ∙ not-false _ c.if-not-is_nonneg.false
 
-size : (c : tie.After-abs) → c.abs.result ≡ nat_abs c.before.before.before.args.n
-size c = rw (to_z-of_z c.before.before.before.ranges.n) at c.abs.ensures
+size : (c : tie.After-abs-m) → c.abs-m.result ≡ nat_abs c.args.n
+size c = rw (to_z-of_z c.ranges.n) at c.abs-m.ensures
 
-is-nonneg-requires : tie.Need-is-nonneg-requires
+is-nonneg-requires : tie.Need-is_nonneg-requires
 is-nonneg-requires c κs = search rules
 
-returns : tie.Need-returns
-returns c = sym (length-negative _ _ (sym (rw (to_z-of_z c.before.before.ranges.n) at c.before.is-nonneg.ensures) ∙ not-true _ c.if1.true))
+returns : tie.Need-returns-then-not-is_nonneg
+returns c = sym (length-negative _ _ (sym (rw (to_z-of_z c.ranges.n) at c.is_nonneg.ensures) ∙ not-true _ c.if-not-is_nonneg.true))
 
-abs-requires : tie.Need-abs-requires
+abs-requires : tie.Need-abs-m-requires
 abs-requires c κs = search rules
 
-returns-2 : tie.Need-returns-2
-returns-2 c = let a = c.before in let e = size a in let h = c.if2.true in ap Length e ∙ sym (length-within _ _ (good a.before) (omega arith))
+returns-2 : tie.Need-returns-then-m-top
+returns-2 c = let a = c.before in let e = size a in let h = c.if-m-top.true in ap Length e ∙ sym (length-within _ _ (good a.before) (omega arith))
 
-returns-3 : tie.Need-returns-3
-returns-3 c = let a = c.before in let e = size a in let h = c.if2.false in sym (length-long _ _ (good a.before) (omega arith))
+returns-3 : tie.Need-returns
+returns-3 c = let a = c.before in let e = size a in let h = c.if-m-top.false in sym (length-long _ _ (good a.before) (omega arith))
 
-pub length-to-spec : {M : Type 1} → statement M
-length-to-spec = tie.close (tie.spec is-nonneg-requires returns abs-requires returns-2 returns-3)
+pub length_to_spec : {M : Type 1} → statement M
+length_to_spec = tie.close (tie.spec is-nonneg-requires returns abs-requires returns-2 returns-3)

@@ -4,11 +4,11 @@ use borrow.Author.Rules.{rules}
 use Rattle.text_words.proofs.lent.Statement.{statement}
 use Rattle.text_words.proofs.lent.Tie as tie
 
-length-to-requires : tie.Need-length-to-requires
+length-to-requires : tie.Need-length_to-requires
 length-to-requires c κs = search rules
 
 returns : tie.Need-returns
-returns c = rw (to_z-of_z c.before.ranges.n) at c.length_to.ensures
+returns c = rw (to_z-of_z c.ranges.n) at c.length_to.ensures
 
 pub lent_spec : {M : Type 1} → statement M
 lent_spec = tie.close (tie.spec length-to-requires returns)

@@ -16,46 +16,46 @@ use Rattle.text_words.proofs.numbers_before.Lts as lts
 use Rattle.text_words.proofs.leading.Reads as leading-reads
 use Rattle.text_words.proofs.no_numbers.Reads as no-numbers-reads
 
-module _ (c : tie.After-leading) where
+module _ (c : tie.After-leading-l) where
   abbrev n : ℕ
-  n = c.before.before.before.args.n
+  n = c.args.n
 
   abbrev front : List ℤ
-  front = take c.leading.result.count c.leading.result.values
+  front = take c.leading-l.result.count c.leading-l.result.values
 
   few : n ≤ 16
-  few = let e = c.before.if1.false in omega arith
+  few = let e = c.if-n-gt16.false in omega arith
 
   -- as many numbers as are counted
-  count : length front ≡ c.leading.result.count
-  count = let e = c.leading.ensures in length-take-le _ _ (let h = e.1 in let n = e.2 in omega arith)
+  count : length front ≡ c.leading-l.result.count
+  count = let e = c.leading-l.ensures in length-take-le _ _ (let h = e.1 in let n = e.2 in omega arith)
 
-no-numbers-requires : tie.Need-no-numbers-requires
+no-numbers-requires : tie.Need-no_numbers-requires
 no-numbers-requires c κs = search rules
 
-returns : tie.Need-returns
-returns c = leading-bad c.no-numbers.result c.no-numbers.ensures.0 ∙ sym (before-over _ _ _ c.before.if1.true)
+returns : tie.Need-returns-then-n-gt16
+returns c = leading-bad c.no_numbers.result c.no_numbers.ensures.0 ∙ sym (before-over _ _ _ c.if-n-gt16.true)
 
-leading-requires : tie.Need-leading-requires
+leading-requires : tie.Need-leading-l-requires
 leading-requires c κs = search rules
 
-no-numbers-requires-2 : tie.Need-no-numbers-requires-2
+no-numbers-requires-2 : tie.Need-no_numbers-requires-then-l-n
 no-numbers-requires-2 c κs = search rules
 
-returns-2 : tie.Need-returns-2
+returns-2 : tie.Need-returns-then-l-n
 returns-2 c =
     let l = c.before.before.before in
-    let other = c.before.if2.true in
-    leading-bad c.no-numbers2.result c.no-numbers2.ensures.0 ∙ sym (before-other l.leading.result (n l) _ _ (few l) l.leading.ensures.0 (ne_eqb (length (front l)) (n l) (λ e. omega (arith, count l))))
+    let other = c.if-l-n.true in
+    leading-bad c.no_numbers-then-l-n.result c.no_numbers-then-l-n.ensures.0 ∙ sym (before-other l.leading-l.result (n l) _ _ (few l) l.leading-l.ensures.0 (ne_eqb (length (front l)) (n l) (λ e. omega (arith, count l))))
 
-returns-3 : tie.Need-returns-3
+returns-3 : tie.Need-returns
 returns-3 c =
     let l = c.before.before in
-    let same = c.if2.false in
-    sym (before_same l.leading.result (n l) _ _ (few l) l.leading.ensures.0 (eq-eqb (length (front l)) (n l) (omega (arith, count l))))
+    let same = c.if-l-n.false in
+    sym (before_same l.leading-l.result (n l) _ _ (few l) l.leading-l.ensures.0 (eq-eqb (length (front l)) (n l) (omega (arith, count l))))
 
-pub numbers-before-spec : {M : Type 1} → statement M
-numbers-before-spec =
+pub numbers_before_spec : {M : Type 1} → statement M
+numbers_before_spec =
     tie.close
     (tie.spec
     no-numbers-requires

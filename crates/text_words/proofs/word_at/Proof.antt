@@ -12,7 +12,7 @@ use Rattle.text_words.specs.Numbers.{word_none, word-run-on, word-whole}
 use Rattle.text_words.proofs.word_at.Statement.{statement}
 use Rattle.text_words.proofs.word_at.Tie as tie
 
-module _ (c : tie.After-ends-word) where
+module _ (c : tie.After-ends_word) where
   abbrev start : tie.Start
   start = c.before.before.before.before.before.before
 
@@ -20,47 +20,47 @@ module _ (c : tie.After-ends-word) where
   line = start.args.line.now
 
   abbrev value : ℤ
-  value = c.before.before.n.given.0.0
+  value = c.in-Value.v
 
   abbrev end : ℕ
-  end = c.before.before.n.given.0.1.0
+  end = c.in-Value.end
 
-  fits : SFits w64 c.before.before.n.given.0.0
+  fits : SFits w64 c.in-Value.v
   fits = search rules
 
   told : number_at (2 ^ 63) line start.args.at ≡ number value end
-  told = sym c.before.before.before.before.number-at.ensures ∙ ap read_of c.before.before.n.given.1
+  told = sym c.number_at-n.ensures ∙ ap read_of c.in-Value.is
 
-number-at-requires : tie.Need-number-at-requires
+number-at-requires : tie.Need-number_at-n-requires
 number-at-requires c κs = search rules
 
-enum-known-n : tie.Need-enum-known-n
+enum-known-n : tie.Need-enum_known-n
 enum-known-n c = search rules
 
-ends-word-requires : tie.Need-ends-word-requires
+ends-word-requires : tie.Need-ends_word-requires
 ends-word-requires c κs = search rules
 
-spaces-from-requires : tie.Need-spaces-from-requires
+spaces-from-requires : tie.Need-spaces_from-requires
 spaces-from-requires c κs = search rules
 
-returns : tie.Need-returns
+returns : tie.Need-returns-then-ends_word
 returns c =
     let k = c.before.before in
-    rw (to_z-of_z (fits k), c.spaces-from.ensures) (sym (word-whole (2 ^ 63) (line k) (start k).args.at (value k) (end k) (told k) (sym k.ends-word.ensures ∙ c.before.if1.true)))
+    rw (to_z-of_z (fits k), c.spaces_from.ensures) (sym (word-whole (2 ^ 63) (line k) (start k).args.at (value k) (end k) (told k) (sym k.ends_word.ensures ∙ c.if-ends_word.true)))
 
-enum_told : tie.Need-enum-told
+enum_told : tie.Need-enum_told-1
 enum_told c = search rules
 
-returns-2 : tie.Need-returns-2
+returns-2 : tie.Need-returns-else-ends_word
 returns-2 c =
     let k = c.before in
-    sym (word-run-on (2 ^ 63) (line k) (start k).args.at (value k) (end k) (told k) (sym k.ends-word.ensures ∙ c.if1.false))
+    sym (word-run-on (2 ^ 63) (line k) (start k).args.at (value k) (end k) (told k) (sym k.ends_word.ensures ∙ c.if-ends_word.false))
 
-returns-3 : tie.Need-returns-3
-returns-3 c = sym (word_none (2 ^ 63) _ _ (sym c.before.before.number-at.ensures ∙ ap read_of c.enum_told.given.1))
+returns-3 : tie.Need-returns-in-Bad
+returns-3 c = sym (word_none (2 ^ 63) _ _ (sym c.number_at-n.ensures ∙ ap read_of c.in-Bad.is))
 
-pub word-at-spec : {M : Type 1} → statement M
-word-at-spec =
+pub word_at_spec : {M : Type 1} → statement M
+word_at_spec =
     tie.close
     (tie.spec
     number-at-requires

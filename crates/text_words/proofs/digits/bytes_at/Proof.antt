@@ -18,7 +18,7 @@ use Rattle.text_scan.proofs.spaces_from.Reads as spaces-from-reads
 use Rattle.text_scan.proofs.word_end.Reads as word-end-reads
 use Rattle.text_words.proofs.digits.dashed.Reads as dashed-reads
 
-module _ (c : tie.After-spaces-from) where
+module _ (c : tie.After-spaces_from-next) where
   abbrev start : tie.Start
   start = c.before.before.before.before
 
@@ -28,53 +28,53 @@ module _ (c : tie.After-spaces-from) where
   abbrev at : ℕ
   at = start.args.at
 
-  next-is : c.spaces-from.result ≡ next_from line at
-  next-is = c.spaces-from.ensures ∙ ap (spaces_from line) c.before.word-end.ensures
+  next-is : c.spaces_from-next.result ≡ next_from line at
+  next-is = c.spaces_from-next.ensures ∙ ap (spaces_from line) c.word_end-end.ensures
 
-within : (c : tie.Else1) → (at c.before ≤ c.before.before.word-end.result) × (c.before.before.word-end.result ≤ length (line c.before))
+within : (c : tie.Else-line-at) → (at c.before ≤ c.word_end-end.result) × (c.word_end-end.result ≤ length (line c.before))
 within c =
-    let e = c.before.before.word-end.ensures in
-    let b = run_end-within (is_byte 32 false) (line c.before) (at c.before) (le_of_lt c.if1.false) in
+    let e = c.word_end-end.ensures in
+    let b = run_end-within (is_byte 32 false) (line c.before) (at c.before) (le_of_lt c.if-line-at.false) in
     (omega arith, omega arith)
 
-word-end-requires : tie.Need-word-end-requires
+word-end-requires : tie.Need-word_end-end-requires
 word-end-requires c κs = search rules
 
-spaces-from-requires : tie.Need-spaces-from-requires
+spaces-from-requires : tie.Need-spaces_from-next-requires
 spaces-from-requires c κs = search rules
 
-returns : tie.Need-returns
+returns : tie.Need-returns-then-line-at
 unfolding bytes_of bytes_written
 returns c =
-    let e = le-ltb (at c.before) (length (line c.before)) c.if1.true in
+    let e = le-ltb (at c.before) (length (line c.before)) c.if-line-at.true in
     (rw e refl, next-is c.before, rw e refl)
 
-sub-dashed : tie.Need-overflow-sub-dashed
+sub-dashed : tie.Need-slice_bounds-dashed-count
 sub-dashed c = (within c).0
 
-part-dashed-start : tie.Need-slice-bounds-dashed-start
+part-dashed-start : tie.Need-slice_bounds-dashed-start
 part-dashed-start c = (within c).0
 
-part-dashed-end : tie.Need-slice-bounds-dashed-end
+part-dashed-end : tie.Need-slice_bounds-dashed-end
 part-dashed-end c = (within c).1
 
-dashed-requires : tie.Need-dashed-requires
+dashed-requires : tie.Need-dashed-hex-requires
 dashed-requires c κs = search rules
 
-same_length : tie.Need-same-length
+same_length : tie.Need-shape_of-out
 same_length c = search rules
 
-returns-2 : tie.Need-returns-2
+returns-2 : tie.Need-returns
 unfolding bytes_of bytes_written
 returns-2 c =
-    let b = c.before.before.before.before.before in
+    let b = c in
     let s = b.before in
-    let e = lt-ltb (at s) (length (line s)) b.if1.false in
-    let d = c.before.before.dashed.ensures in
-    (rw (e, ← s.before.word-end.ensures) d.0, next-is s, rw (e, ← s.before.word-end.ensures) d.1)
+    let e = lt-ltb (at s) (length (line s)) b.if-line-at.false in
+    let d = c.dashed-hex.ensures in
+    (rw (e, ← s.word_end-end.ensures) d.0, next-is s, rw (e, ← s.word_end-end.ensures) d.1)
 
-pub bytes-at-spec : {M : Type 1} → statement M
-bytes-at-spec =
+pub bytes_at_spec : {M : Type 1} → statement M
+bytes_at_spec =
     tie.close
     (tie.spec
     word-end-requires

@@ -9,36 +9,32 @@ use Rattle.text_words.proofs.digits.dashed.Statement.{statement}
 use Rattle.text_words.proofs.digits.dashed.Tie as tie
 
 -- the test tells whether the word is a dash
-told : (c : tie.After-same) → c.same.result ≡ is_name c.before.before.before.before.args.word.now (45 ∷ [])
+told : (c : tie.After-same) → c.same.result ≡ is_name c.args.word.now (45 ∷ [])
 told c = name_told _ _ c.same.result c.same.ensures.0 c.same.ensures.1
-
-slice-aggregate-same : tie.Need-slice-aggregate-same
-slice-aggregate-same c = search rules
 
 same-requires : tie.Need-same-requires
 same-requires c κs = search rules
 
-returns : tie.Need-returns
+returns : tie.Need-returns-then-same
 unfolding dash_of dash_written
 returns c =
-    let e = sym (told c.before) ∙ c.if1.true in
+    let e = sym (told c.before) ∙ c.if-same.true in
     (rw e refl, rw e refl)
 
 unhex-requires : tie.Need-unhex-requires
 unhex-requires c κs = search rules
 
-same_length : tie.Need-same-length
+same_length : tie.Need-shape_of-out
 same_length c = search rules
 
-returns-2 : tie.Need-returns-2
+returns-2 : tie.Need-returns
 unfolding dash_of dash_written
 returns-2 c =
-    let b = c.before.before.before.before in
-    let e = sym (told b.before) ∙ b.if1.false in
-    let u = c.before.before.unhex.ensures in
+    let b = c in
+    let e = sym (told b.before) ∙ b.if-same.false in
+    let u = c.unhex.ensures in
     (rw e u.0, rw e u.1)
 
-pub dashed-spec : {M : Type 1} → statement M
-dashed-spec =
-    tie.close
-    (tie.spec slice-aggregate-same same-requires returns unhex-requires same_length returns-2)
+pub dashed_spec : {M : Type 1} → statement M
+dashed_spec =
+    tie.close (tie.spec same-requires returns unhex-requires same_length returns-2)

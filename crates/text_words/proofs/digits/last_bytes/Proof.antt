@@ -18,8 +18,8 @@ use Rattle.text_hex.proofs.unhex.Reads as unhex-reads
 use Rattle.text_scan.proofs.spaces_from.Reads as spaces-from-reads
 use Rattle.text_scan.proofs.word_end.Reads as word-end-reads
 
-module _ (c : tie.After-spaces-from) where
-  abbrev some : tie.Else1
+module _ (c : tie.After-spaces_from) where
+  abbrev some : tie.Else-line-at
   some = c.before.before
 
   abbrev start : tie.Start
@@ -31,63 +31,63 @@ module _ (c : tie.After-spaces-from) where
   abbrev at : ℕ
   at = start.args.at
 
-  next-is : c.spaces-from.result ≡ next_from line at
-  next-is = c.spaces-from.ensures ∙ ap (spaces_from line) c.before.word-end.ensures
+  next-is : c.spaces_from.result ≡ next_from line at
+  next-is = c.spaces_from.ensures ∙ ap (spaces_from line) c.word_end-end.ensures
 
-  within : (at ≤ c.before.word-end.result) × (c.before.word-end.result ≤ length line)
+  within : (at ≤ c.word_end-end.result) × (c.word_end-end.result ≤ length line)
   within =
-      let e = c.before.word-end.ensures in
-      let b = run_end-within (is_byte 32 false) line at (le_of_lt some.if1.left) in
+      let e = c.word_end-end.ensures in
+      let b = run_end-within (is_byte 32 false) line at (le_of_lt some.if-line-at.left) in
       (omega arith, omega arith)
 
-returns : tie.Need-returns
+returns : tie.Need-returns-then-line-at
 unfolding last_of last_written
 returns c =
-    let s = c.before.before.before in
-    let e = le-ltb s.args.at (length s.args.line.now) c.if1.true in
+    let s = c in
+    let e = le-ltb s.args.at (length s.args.line.now) c.if-line-at.true in
     (rw e refl, rw e refl)
 
-word-end-requires : tie.Need-word-end-requires
+word-end-requires : tie.Need-word_end-end-requires
 word-end-requires c κs = search rules
 
-spaces-from-requires : tie.Need-spaces-from-requires
+spaces-from-requires : tie.Need-spaces_from-requires
 spaces-from-requires c κs = search rules
 
-returns-2 : tie.Need-returns-2
+returns-2 : tie.Need-returns-then-spaces_from-line
 unfolding last_of last_written
 returns-2 c =
     let s = c.before in
-    let e = lt-ltb (at s) (length (line s)) (some s).if1.false in
-    let f = lt-ltb (next_from (line s) (at s)) (length (line s)) (rw (next-is s) at c.if2.true) in
+    let e = lt-ltb (at s) (length (line s)) (some s).if-line-at.false in
+    let f = lt-ltb (next_from (line s) (at s)) (length (line s)) (rw (next-is s) at c.if-spaces_from-line.true) in
     (rw (e, f) refl, rw (e, f) refl)
 
-sub-unhex : tie.Need-overflow-sub-unhex
+sub-unhex : tie.Need-slice_bounds-unhex-count
 sub-unhex c = (within c.before).0
 
-part-unhex-start : tie.Need-slice-bounds-unhex-start
+part-unhex-start : tie.Need-slice_bounds-unhex-start
 part-unhex-start c = (within c.before).0
 
-part-unhex-end : tie.Need-slice-bounds-unhex-end
+part-unhex-end : tie.Need-slice_bounds-unhex-end
 part-unhex-end c = (within c.before).1
 
 unhex-requires : tie.Need-unhex-requires
 unhex-requires c κs = search rules
 
-same_length : tie.Need-same-length
+same_length : tie.Need-shape_of-out
 same_length c = search rules
 
-returns-3 : tie.Need-returns-3
+returns-3 : tie.Need-returns
 unfolding last_of last_written
 returns-3 c =
-    let b = c.before.before.before.before.before in
+    let b = c in
     let s = b.before in
-    let e = lt-ltb (at s) (length (line s)) (some s).if1.false in
-    let f = le-ltb (next_from (line s) (at s)) (length (line s)) (rw (next-is s) at b.if2.false) in
-    let u = c.before.before.unhex.ensures in
-    (rw (e, f, ← s.before.word-end.ensures) u.0, rw (e, f, ← s.before.word-end.ensures) u.1)
+    let e = lt-ltb (at s) (length (line s)) (some s).if-line-at.false in
+    let f = le-ltb (next_from (line s) (at s)) (length (line s)) (rw (next-is s) at b.if-spaces_from-line.false) in
+    let u = c.unhex.ensures in
+    (rw (e, f, ← s.word_end-end.ensures) u.0, rw (e, f, ← s.word_end-end.ensures) u.1)
 
-pub last-bytes-spec : {M : Type 1} → statement M
-last-bytes-spec =
+pub last_bytes_spec : {M : Type 1} → statement M
+last_bytes_spec =
     tie.close
     (tie.spec
     returns
