@@ -1,7 +1,7 @@
 -- Where the numbers begin that pass one of two tests: at the nearer of where those of each begin.
 -- Assumes nothing.
 use Rattle.std.specs.Prelude.{◌≡◌, refl, Bool, true, false, ◌||◌, List, [], ◌∷◌, ℕ, suc, ◌≤◌, ◌<◌, min, eqb}
-use Rattle.std.proofs.Common.{sym, ap, ap₂, ◌∙◌, arith, eq-eqb, ne_eqb}
+use Rattle.std.proofs.Common.{sym, ap, ◌∙◌, arith, eq-eqb, ne_eqb}
 use Rattle.std.proofs.Math.Nat.{min-eq_left, min-eq_right}
 use Rattle.ranks.specs.Rest.{rest, Place, at, ended, place_of}
 use Rattle.ranks.proofs.Rest.{rest-hit, rest-miss, rest_over, rest-induct, View, view, nothing, least}
