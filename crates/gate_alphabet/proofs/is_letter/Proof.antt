@@ -15,7 +15,7 @@ returns-4 : tie.Need-returns-in-87
 returns-4 c = is_one _ W c.in-87.is
 
 returns-5 : tie.Need-returns-in_default
-returns-5 c = let r = c.in_default.rest in is_none _ r.0.0.0.1 r.0.0.1 r.0.1 r.1
+returns-5 c = let r = c.in_default.in_default-own.rest in is_none _ r.0.0.0.1 r.0.0.1 r.0.1 r.1
 
 pub is_letter_spec : {M : Type 1} → statement M
 is_letter_spec = tie.close (tie.spec returns returns-2 returns-3 returns-4 returns-5)

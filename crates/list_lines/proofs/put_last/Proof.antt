@@ -36,7 +36,7 @@ size : (c : tie.After-abs-n) → c.abs-n.result ≡ nat_abs c.args.z
 size c =
     let s = c in
     let f = s.ranges.z in
-    let e : to_z w64 (of_z w64 (to_z w32 (of_z w32 s.args.z))) ≡ s.args.z = rw (to_z-of_z f) (to_z-of_z (sfits_widen tt f)) in
+    let e : to_z w64 (of_z w64 (to_z w32 (of_z w32 s.args.z))) ≡ s.args.z = rw (to_z-of_z f) (to_z-of_z {w = w64} (sfits_widen tt f)) in
     c.abs-n.ensures ∙ ap nat_abs e
 
 put-coordinate-requires : tie.Need-put_coordinate-requires

@@ -97,7 +97,7 @@ put-short-requires : tie.Need-put_short-g-requires
 put-short-requires c κs =
     let z = c in
     let h = z.before.before.before.before.before in
-    let l = short-head h in
+    let l = short-head h.before.before.before in
     let e = (begun h).end in
     let f = (begun h).same in
     let b = z.put_last-f.ensures.1 in
@@ -129,7 +129,7 @@ returns : tie.Need-returns
 returns c =
     let q = c in
     let p = q.before.before.before.before in
-    let b = h p in
+    let b = h p.before.before in
     let e = (counted b).before.exponent-e.ensures in
     let m = (counted b).pulse_count-m.ensures in
     let last = q.put_short.ensures in

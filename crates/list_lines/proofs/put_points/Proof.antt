@@ -33,7 +33,7 @@ module _ (c : tie.In-loop-i invariant-loop decreases-loop) where
   there : 4 * c.loop-i.i + 4 ≤ length start.args.points.now
   there = let p = start.requires.0 in let h = c.loop-i-test.true in omega arith
 
-  room : c.loop-i.at + 70 ≤ length c.loop-i.out-1
+  room : c.loop-i.at + 70 ≤ length c.loop-i.out
   room =
       let p = start.requires.1 in
       let h = c.loop-i-test.true in
@@ -42,7 +42,7 @@ module _ (c : tie.In-loop-i invariant-loop decreases-loop) where
       omega arith
 
 -- the head is that of the point, kept or spelled anew
-spelled : (j : tie.Joined-begins_row invariant-loop decreases-loop) → Spelled j.if-begins_row.head-1 j.if-begins_row.length j.point_at-v.result
+spelled : (j : tie.Joined-begins_row invariant-loop decreases-loop) → Spelled j.if-begins_row.head j.if-begins_row.length j.point_at-v.result
 spelled j =
     let p = j in
     let i = p.loop-i.invariant.3 in
@@ -111,7 +111,7 @@ loop-again c =
     let v = j in
     let l = v.before in
     let t = l.before in
-    let s = start l in
+    let s = start l.before.before.before.before in
     let b = q.put_point-at.ensures.1 in
     let a = t.loop-i.invariant.1 in (
       omega arith,
@@ -128,7 +128,7 @@ returns c =
     let t = c in
     let s = t in
     let e : t.loop-i.i ≡ s.args.n = omega arith in
-    subst (λ (i : ℕ). Appended s.args.out.now 0 (lines_of s.args.k (take (4 * i) s.args.points.now)) t.loop-i.out-1 t.loop-i.at) e t.loop-i.invariant.2
+    subst (λ (i : ℕ). Appended s.args.out.now 0 (lines_of s.args.k (take (4 * i) s.args.points.now)) t.loop-i.out t.loop-i.at) e t.loop-i.invariant.2
 
 pub put_points_spec : {M : Type 1} → statement M
 put_points_spec =

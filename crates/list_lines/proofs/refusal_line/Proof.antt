@@ -25,7 +25,7 @@ spelt n r place e = ap (λ (i : ℕ). refused ++ decimal i ++ at_place ++ count_
 -- after the first word
 module _ (p : tie.After-put_bytes-a) where
   abbrev start : tie.Start
-  start = p.before.before.before.before
+  start = p.before.before.before.before.before
 
   abbrev xs : List ℕ
   xs = start.args.line.now
@@ -36,7 +36,7 @@ module _ (p : tie.After-put_bytes-a) where
 -- after ` at `
 module _ (q : tie.After-put_bytes-c) where
   abbrev numbered : tie.After-put_number-b
-  numbered = q.before.before.before.before.before
+  numbered = q.before.before.before.before.before.before
 
   abbrev begun : tie.After-put_bytes-a
   begun = numbered.before.before.before.before.before

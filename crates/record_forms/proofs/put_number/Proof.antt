@@ -14,59 +14,59 @@ use Rattle.record_forms.proofs.Steps.{bytes_from, number-room, number-again, num
 use Rattle.record_forms.proofs.put_number.Statement.{statement}
 use Rattle.record_forms.proofs.put_number.Tie as tie
 
-abbrev invariant-loop : tie.invariant-loop
+abbrev invariant-loop : tie.invariant-loop-i
 invariant-loop out₀ at z size minus v₀ a₀ i₀ out v a i =
     (i ≤ size) × (v < 256 ^ (size - i)) × (◌≡◌ {A = Slate} (laid (out, a) (bytes_from minus (size - i) v)) (laid (out₀, a₀) (bytes_from minus (size - i₀) v₀)))
 
-abbrev decreases-loop : tie.decreases-loop
+abbrev decreases-loop : tie.decreases-loop-i
 decreases-loop out₀ at z size minus v₀ a₀ i₀ out v a i = size - i
 
 -- the size of z
-size : (c : tie.After-size-of invariant-loop decreases-loop) → c.size_of.result ≡ mag c.before.before.args.z
-size c = rw (to_z-of_z c.before.before.ranges.z) at c.size_of.ensures.0
+size : (c : tie.After-size_of-v invariant-loop decreases-loop) → c.size_of-v.result ≡ mag c.args.z
+size c = rw (to_z-of_z c.ranges.z) at c.size_of-v.ensures.0
 
-abbrev minus : tie.After-size-of invariant-loop decreases-loop → Bool
-minus c = lt_z (to_z w64 (of_z w64 c.before.before.args.z)) (pos 0)
+abbrev minus : tie.After-size_of-v invariant-loop decreases-loop → Bool
+minus c = lt_z (to_z w64 (of_z w64 c.args.z)) (pos 0)
 
-size-of-requires : tie.Need-size-of-requires invariant-loop decreases-loop
+size-of-requires : tie.Need-size_of-v-requires invariant-loop decreases-loop
 size-of-requires c κs = search rules
 
-loop-holds : tie.Need-loop-init invariant-loop decreases-loop
-loop-holds c = let s = c.before.before in (omega arith, number-room s.args.f s.args.z c.size_of.result s.requires (size c), refl)
+loop-holds : tie.Need-loop-i-init invariant-loop decreases-loop
+loop-holds c = let s = c in (omega arith, number-room c.args.f c.args.z c.size_of-v.result c.requires (size c), refl)
 
-low-byte-requires : tie.Need-low-byte-requires invariant-loop decreases-loop
+low-byte-requires : tie.Need-low_byte-requires invariant-loop decreases-loop
 low-byte-requires c κs = search rules
 
-put-byte-requires : tie.Need-put-byte-requires invariant-loop decreases-loop
+put-byte-requires : tie.Need-put_byte-a-requires invariant-loop decreases-loop
 put-byte-requires c κs = search rules
 
-add-i : tie.Need-overflow-add-i invariant-loop decreases-loop
+add-i : tie.Need-overflow_add-i invariant-loop decreases-loop
 add-i c = omega arith
 
-loop-less : tie.Need-loop-smaller invariant-loop decreases-loop
+loop-less : tie.Need-loop-i-smaller invariant-loop decreases-loop
 loop-less c = omega arith
 
-loop-again : tie.Need-loop-preserved invariant-loop decreases-loop
+loop-again : tie.Need-loop-i-preserved invariant-loop decreases-loop
 loop-again c =
-    let q = c.before.before in
-    let b = q.before in
-    let l = b.before.before in
-    let t = l.before in
-    let n = number-again (minus t.before) t.before.before.before.args.f.size t.loop.v t.loop.i t.loop.out t.loop.a b.low_byte.result q.put_byte.new.0 q.put_byte.result _ l.loop-test.true t.loop.invariant.1 t.loop.invariant.2 b.low_byte.ensures q.put_byte.ensures in
+    let q = c in
+    let b = q in
+    let l = b in
+    let t = l in
+    let n = number-again (minus t.before) c.args.f.size c.loop-i.v c.loop-i.i c.loop-i.out-1 c.loop-i.a c.low_byte.result c.put_byte-a.new.0 c.put_byte-a.result _ c.loop-i-test.true c.loop-i.invariant.1 c.loop-i.invariant.2 c.low_byte.ensures c.put_byte-a.ensures in
     (omega arith, n.0, n.1)
 
-same_length : tie.Need-same-length invariant-loop decreases-loop
-same_length c = let t = c.before in laid_same (t.loop.out, t.loop.a) _ _ _ t.loop.invariant.2
+same_length : tie.Need-shape_of-out invariant-loop decreases-loop
+same_length c = let t = c in laid_same (c.loop-i.out-1, c.loop-i.a) _ _ _ c.loop-i.invariant.2
 
 returns : tie.Need-returns invariant-loop decreases-loop
 returns c =
-    let t = c.before in
-    let s = t.before.before.before in
-    number-done (minus t.before) s.args.f.size t.loop.v t.loop.i (t.loop.out, t.loop.a) _ c.loop-test.false t.loop.invariant.2
-    ∙ ap (laid (s.args.out.now, s.args.at)) (number-whole s.args.f s.args.z _ t.before.size_of.result (to_z-of_z s.ranges.z) (size t.before))
+    let t = c in
+    let s = t in
+    number-done (minus t.before) c.args.f.size c.loop-i.v c.loop-i.i (c.loop-i.out-1, c.loop-i.a) _ c.loop-i-test.false c.loop-i.invariant.2
+    ∙ ap (laid (c.args.out.now, c.args.at)) (number-whole c.args.f c.args.z _ c.size_of-v.result (to_z-of_z c.ranges.z) (size t.before))
 
-pub put-number-spec : {M : Type 1} → statement M
-put-number-spec =
+pub put_number_spec : {M : Type 1} → statement M
+put_number_spec =
     tie.close
     (tie.spec
     invariant-loop

@@ -4,25 +4,25 @@ use Rattle.record_forms.proofs.Steps.{record_whole}
 use Rattle.record_forms.proofs.put_record.Statement.{statement}
 use Rattle.record_forms.proofs.put_record.Tie as tie
 
-byte-of-requires : tie.Need-byte-of-requires
+byte-of-requires : tie.Need-byte_of-requires
 byte-of-requires c κs = search rules
 
-put-byte-requires : tie.Need-put-byte-requires
+put-byte-requires : tie.Need-put_byte-a-requires
 put-byte-requires c κs = search rules
 
-put-body-requires : tie.Need-put-body-requires
+put-body-requires : tie.Need-put_body-requires
 put-body-requires c κs = search rules
 
-same_length : tie.Need-same-length
+same_length : tie.Need-shape_of-out
 same_length c = search rules
 
 returns : tie.Need-returns
 returns c =
-    let b = c.before.before in
-    let p = b.before.before.before.before in
-    let y = p.before in
-    let s = y.before.before.before in
-    record_whole s.args.kind s.args.numbers.now s.args.out.now s.args.at y.byte_of.result p.put_byte.new.0 p.put_byte.result (b.put-body.new.0, b.put-body.result) y.byte_of.ensures p.put_byte.ensures b.put-body.ensures
+    let b = c in
+    let p = b in
+    let y = p in
+    let s = y in
+    record_whole c.args.kind c.args.numbers.now c.args.out.now c.args.at c.byte_of.result c.put_byte-a.new.0 c.put_byte-a.result (c.put_body.new.0, c.put_body.result) c.byte_of.ensures c.put_byte-a.ensures c.put_body.ensures
 
-pub put-record-spec : {M : Type 1} → statement M
-put-record-spec = tie.close (tie.spec byte-of-requires put-byte-requires put-body-requires same_length returns)
+pub put_record_spec : {M : Type 1} → statement M
+put_record_spec = tie.close (tie.spec byte-of-requires put-byte-requires put-body-requires same_length returns)

@@ -39,7 +39,7 @@ enum-known-region-2 : tie.Need-enum_known-region-in-Ellipse-1
 enum-known-region-2 c = search rules
 
 over-ellipse-requires : tie.Need-over_ellipse-requires
-over-ellipse-requires c κs = ap accepted (sym c.in-Ellipse.is) ∙ taken c.before
+over-ellipse-requires c κs = ap accepted (sym c.in-Ellipse.is) ∙ taken c.before.before.before
 
 enum-known-region-3 : tie.Need-enum_known-region-in-Slice-1
 enum-known-region-3 c = search rules
@@ -50,23 +50,23 @@ disk-requires c κs = search rules
 over-ellipse-requires-2 : tie.Need-over_ellipse-requires-in-Slice
 over-ellipse-requires-2 c κs =
     let k = c in
-    rw c.disk.ensures (disk-accepted k.in-Slice.s (ap accepted (sym k.in-Slice.is) ∙ taken k.before.before))
+    rw c.disk.ensures (disk-accepted c.in-Slice.s (ap accepted (sym c.in-Slice.is) ∙ taken k.before.before))
 
 returns-2 : tie.Need-returns-in-Rectangle
 unfolding reach_of
 returns-2 c =
     let k = c in
     let s = k in
-    let a : accepted (R.Rectangle k.in-Rectangle.r) ≡ true = ap accepted (sym k.in-Rectangle.is) ∙ taken k.before.before in
-    rw (k.in-Rectangle.is, a) (back w64 c.over_rectangle.type_inv ∙ (simp (to_z-of_z s.ranges.u, to_z-of_z s.ranges.v) at c.over_rectangle.ensures))
+    let a : accepted (R.Rectangle c.in-Rectangle.r) ≡ true = ap accepted (sym c.in-Rectangle.is) ∙ taken k.before.before in
+    rw a (back w64 c.over_rectangle.type_inv ∙ (simp (to_z-of_z c.ranges.u, to_z-of_z c.ranges.v) at c.over_rectangle.ensures))
 
 returns-3 : tie.Need-returns-in-Ellipse
 unfolding reach_of
 returns-3 c =
     let k = c in
     let s = k in
-    let a : accepted (R.Ellipse k.in-Ellipse.e) ≡ true = ap accepted (sym k.in-Ellipse.is) ∙ taken k.before.before in
-    rw (k.in-Ellipse.is, a) (back w64 c.over_ellipse.type_inv ∙ (simp (to_z-of_z s.ranges.u, to_z-of_z s.ranges.v) at c.over_ellipse.ensures))
+    let a : accepted (R.Ellipse c.in-Ellipse.e) ≡ true = ap accepted (sym c.in-Ellipse.is) ∙ taken k.before.before in
+    rw a (back w64 c.over_ellipse.type_inv ∙ (simp (to_z-of_z c.ranges.u, to_z-of_z c.ranges.v) at c.over_ellipse.ensures))
 
 returns-4 : tie.Need-returns-in-Slice
 unfolding reach_of
@@ -74,8 +74,8 @@ returns-4 c =
     let d = c in
     let k = d in
     let s = k in
-    let a : accepted (R.Slice k.in-Slice.s) ≡ true = ap accepted (sym k.in-Slice.is) ∙ taken k.before.before.before in
-    rw (k.in-Slice.is, a) (back w64 c.over_ellipse-in-Slice.type_inv ∙ (simp (d.disk.ensures, to_z-of_z s.ranges.u, to_z-of_z s.ranges.v) at c.over_ellipse-in-Slice.ensures))
+    let a : accepted (R.Slice c.in-Slice.s) ≡ true = ap accepted (sym c.in-Slice.is) ∙ taken k.before.before.before in
+    rw a (back w64 c.over_ellipse-in-Slice.type_inv ∙ (simp (c.disk.ensures, to_z-of_z c.ranges.u, to_z-of_z c.ranges.v) at c.over_ellipse-in-Slice.ensures))
 
 pub reach_spec : {M : Type 1} → statement M
 reach_spec =

@@ -68,7 +68,7 @@ length-requires : tie.Need-length-m-requires
 length-requires c κs =
     let x = c.is_short in
     let y = c.is_short-2 in
-    ((limits c).n-high, leb-true _ 5000000 (sym x.ensures ∙ not-false _ c.if-not-is_short.false), leb-true _ 5000000 (sym y.ensures ∙ c.if-not-is_short-2.false))
+    ((limits c).n-high, leb-true _ 5000000 (sym x.ensures ∙ c.if-not-is_short.false), leb-true _ 5000000 (sym y.ensures ∙ c.if-not-is_short-2.false))
 
 w_fits : (c : tie.Else-not-is_short-2) → SFits w32 (s c).w
 w_fits c = search rules
@@ -104,11 +104,11 @@ returns-3 c =
     let q = c in
     let k = q.before in
     let i = start (parts k.before) in
-    let t = rw (e-is k.before) at q.quotient-h.ensures in
-    let r = back w64 {z = q.quotient-h.result} q.quotient-h.type_inv in
-    let h = q.quotient-h.result in
+    let t = rw (e-is k.before) at c.quotient-h.ensures in
+    let r = back w64 {z = c.quotient-h.result} c.quotient-h.type_inv in
+    let h = c.quotient-h.result in
     let l = ≺→≼ h i.args.d (lt_z_true h i.args.d (rw (r, to_z-of_z i.ranges.d) at c.if-h-d.true)) in
-    rw r (sum-bounds (s (parts k.before)) i.args.u i.args.v i.args.d h k.length-m.result i.args.p i.args.q i.requires.2 (long k.before) t l i.requires.4)
+    rw r (sum-bounds (s (parts k.before)) i.args.u i.args.v i.args.d h c.length-m.result i.args.p i.args.q i.requires.2 (long k.before) t l i.requires.4)
 
 returns-4 : tie.Need-returns-else-h-d
 returns-4 c = search rules

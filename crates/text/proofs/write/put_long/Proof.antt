@@ -22,7 +22,7 @@ same_length c = search rules
 returns : tie.Need-returns
 returns c =
     let d = c in
-    rw (decimal-digits d.decimal-k.result d.args.n d.decimal-k.ensures.len, ← d.decimal-k.ensures.digits)
+    rw (decimal-digits d.decimal-k.result d.args.n d.decimal-k.ensures.1, ← d.decimal-k.ensures.2)
     c.put_bytes.ensures
 
 pub put_long_spec : {M : Type 1} → statement M
