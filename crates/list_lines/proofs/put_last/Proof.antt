@@ -58,11 +58,11 @@ cast-put-small : tie.Need-overflow_cast-n
 cast-put-small c = search rules
 
 -- after the sign
-signed : (p : tie.After-put_byte-digits) → let s = p.before.before.before.before.before.before in Appended s.args.out.now s.args.at (45 ∷ []) p.put_byte-digits.new.0 p.put_byte-digits.result
+signed : (p : tie.After-put_byte-digits) → let s = p.before.before.before.before.before.before in Appended s.args.out.now s.args.at (45 ∷ []) p.put_byte-digits.new.out p.put_byte-digits.result
 signed p =
     let s = p in
     let e = p.put_byte-digits.ensures in
-    appended s.args.out.now s.args.at (45 ∷ []) p.put_byte-digits.new.0 p.put_byte-digits.result (omega (arith, s.requires)) e.0 e.1
+    appended s.args.out.now s.args.at (45 ∷ []) p.put_byte-digits.new.out p.put_byte-digits.result (omega (arith, s.requires)) e.0 e.1
 
 put-small-requires : tie.Need-put_small-requires
 put-small-requires c κs =
@@ -88,7 +88,7 @@ returns-2 c =
     let neg : lt_z z (pos 0) ≡ true = rw (to_z-of_z s.ranges.z) at i.if-z-lt0.true in
     let b = (signed p).end in
     let d = q.put_small.ensures.1 in
-    (rw (below z neg, ← size a) (append-more s.args.out.now s.args.at (45 ∷ []) _ p.put_byte-digits.new.0 _ p.put_byte-digits.result _ (signed p) q.put_small.ensures.0), omega arith)
+    (rw (below z neg, ← size a) (append-more s.args.out.now s.args.at (45 ∷ []) _ p.put_byte-digits.new.out _ p.put_byte-digits.result _ (signed p) q.put_small.ensures.0), omega arith)
 
 cast-put-small-2 : tie.Need-overflow_cast-n-2
 cast-put-small-2 c = search rules
@@ -108,7 +108,7 @@ returns-3 c =
     let z = s.args.z in
     let non : lt_z z (pos 0) ≡ false = rw (to_z-of_z s.ranges.z) at i.if-z-lt0.false in
     let d = q.put_small-2.ensures.1 in
-    (rw (above z non, ← size a) q.put_small-2.ensures.0, omega arith)
+    (rw (above z non, ← size a.before.before.before.before) q.put_small-2.ensures.0, omega arith)
 
 pub put_last_spec : {M : Type 1} → statement M
 put_last_spec =

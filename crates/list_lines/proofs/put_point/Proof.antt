@@ -54,14 +54,14 @@ module _ (c : tie.After-put_short-g) where
   abbrev front : List ℕ
   front = head_text (v h) ++ coordinate_text (v h).d ++ count_text (counted h).before.exponent-e.result 32
 
-  stands : Appended (xs h) (start h).args.at front c.put_short-g.new.0 c.put_short-g.result
+  stands : Appended (xs h) (start h).args.at front c.put_short-g.new.out c.put_short-g.result
   stands =
       let at = (start h).args.at in
       let hd : SFits w32 (v h).d = search rules in
       let m1 = h.put_bytes-d.last.0 in
       let m2 = z.put_last-f.last.0 in
       let a2 = append-more (xs h) at (head_text (v h)) (coordinate_text (v h).d) m1 m2 h.put_bytes-d.result z.put_last-f.result (begun h) (rw (to_z-of_z hd) at z.put_last-f.ensures.0) in
-      append-more (xs h) at (head_text (v h) ++ coordinate_text (v h).d) (count_text (counted h).before.exponent-e.result 32) m2 c.put_short-g.new.0 z.put_last-f.result c.put_short-g.result a2 c.put_short-g.ensures.0
+      append-more (xs h) at (head_text (v h) ++ coordinate_text (v h).d) (count_text (counted h).before.exponent-e.result 32) m2 c.put_short-g.new.out z.put_last-f.result c.put_short-g.result a2 c.put_short-g.ensures.0
 
   short : c.put_short-g.result ≤ (start h).args.at + 59
   short =
@@ -133,7 +133,7 @@ returns c =
     let e = (counted b).before.exponent-e.ensures in
     let m = (counted b).pulse_count-m.ensures in
     let last = q.put_short.ensures in
-    let all = append-more (xs b) (start b).args.at (front p) (count_text (counted b).pulse_count-m.result 10) p.put_short-g.new.0 q.put_short.new.0 p.put_short-g.result q.put_short.result (stands p) last.0 in
+    let all = append-more (xs b) (start b).args.at (front p.before.before) (count_text (counted b).pulse_count-m.result 10) p.put_short-g.new.out q.put_short.new.0 p.put_short-g.result q.put_short.result (stands p) last.0 in
     let s = short p in
     let l = last.1 in
     (subst (λ (t : List ℕ). Appended (xs b) (start b).args.at t q.put_short.new.0 q.put_short.result) (line (start b).args.k (v b) (counted b).before.exponent-e.result (counted b).pulse_count-m.result e m) all, omega arith)

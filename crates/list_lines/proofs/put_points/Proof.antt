@@ -50,7 +50,7 @@ spelled j =
     ⊎_elim
     (λ w. subst₂ (λ (h : List ℕ) (m : ℕ). Spelled h m v) (sym w.4) (sym w.5) (w.2.ensures.0.same ∙ i.0, w.2.ensures.1, w.2.ensures.0.text))
     (λ w. subst₂ (λ (h : List ℕ) (m : ℕ). Spelled h m v) (sym w.1) (sym w.2) (i.0, i.1, i.2 ∙ j.begins_row.ensures w.0.left))
-    j.if-begins_row.branch
+    j.if-begins_row.branch-raw
 
 slice-aggregate-put-head : tie.Need-slice_bounds-put_head-end invariant-loop decreases-loop
 slice-aggregate-put-head c = search rules
@@ -116,7 +116,7 @@ loop-again c =
     let a = t.loop-i.invariant.1 in (
       omega arith,
       omega arith,
-      lines_next s.args.k s.args.points.now t.loop-i.i v.point_at-v.result s.args.out.now t.loop-i.out-1 q.put_point-at.new.0 t.loop-i.at q.put_point-at.result (there l) v.point_at-v.ensures t.loop-i.invariant.2 q.put_point-at.ensures.0,
+      lines_next s.args.k s.args.points.now t.loop-i.i v.point_at-v.result s.args.out.now t.loop-i.out q.put_point-at.new.0 t.loop-i.at q.put_point-at.result (there l) v.point_at-v.ensures t.loop-i.invariant.2 q.put_point-at.ensures.0,
       spelled j,
     )
 

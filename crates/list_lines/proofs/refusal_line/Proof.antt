@@ -99,7 +99,7 @@ returns : tie.Need-returns
 returns c =
     let k = c in
     let q = k.before.before.before.before in
-    let s = start (begun q) in
+    let s = start (begun q.before.before) in
     let place = s.args.place in
     let all = append-more (xs (begun q)) 0 (refused ++ decimal (shown q) ++ at_place) (count_text place 10) q.put_bytes-c.new.0 k.put_count.new.0 q.put_bytes-c.result k.put_count.result (three q) k.put_count.ensures.0 in
     let f = all.same in

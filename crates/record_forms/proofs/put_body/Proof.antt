@@ -95,25 +95,25 @@ loop-again c =
     let q = c in
     let l = q.before.before.before.before in
     let t = l.before in
-    let f = formed l in
+    let f = formed l.before.before in
     let h = c.loop-i-test.true in
-    let fits : SFits w64 (get_or (numbers f) (i l) (pos 0)) = search rules in (
+    let fits : SFits w64 (get_or (numbers f) (i l.before.before) (pos 0)) = search rules in (
       omega arith,
       (taken l).1,
       body-again f.form_of-form.result.fields f.form_of-form.result.count (numbers f) (i l) none (pos 0) (here l) (there l) h (c.loop-i.out-1, c.loop-i.a) (c.put_number-a.new.0, c.put_number-a.result) _ c.loop-i.invariant.2 (rw (to_z-of_z fits) at c.put_number-a.ensures),
     )
 
 same_length : tie.Need-shape_of-out invariant-loop decreases-loop
-same_length c = let t = c in laid_same (c.loop-i.out-1, c.loop-i.a) _ _ _ c.loop-i.invariant.2
+same_length c = let t = c in laid_same (c.loop-i.out, c.loop-i.a) _ _ _ c.loop-i.invariant.2
 
 returns : tie.Need-returns invariant-loop decreases-loop
 returns c =
     let t = c in
     let f = t.before in
     let s = f.before.before in
-    let l = long f in
+    let l = long f.before in
     let h = c.loop-i-test.false in
-    body-done (fields f) (numbers f) c.loop-i.i (c.loop-i.out-1, c.loop-i.a) _ (omega arith) c.loop-i.invariant.2
+    body-done (fields f.before) (numbers f) c.loop-i.i (c.loop-i.out-1, c.loop-i.a) _ (omega arith) c.loop-i.invariant.2
     ∙ ap (λ (l : List Field). laid (c.args.out.now, c.args.at) (body_bytes l (numbers f))) (is f)
 
 pub put_body_spec : {M : Type 1} → statement M

@@ -52,17 +52,17 @@ loop-again c =
     let b = q in
     let l = b in
     let t = l in
-    let n = number-again (minus t.before) c.args.f.size c.loop-i.v c.loop-i.i c.loop-i.out-1 c.loop-i.a c.low_byte.result c.put_byte-a.new.0 c.put_byte-a.result _ c.loop-i-test.true c.loop-i.invariant.1 c.loop-i.invariant.2 c.low_byte.ensures c.put_byte-a.ensures in
+    let n = number-again (minus t.before.before.before.before.before.before.before) c.args.f.size c.loop-i.v c.loop-i.i c.loop-i.out c.loop-i.a c.low_byte.result c.put_byte-a.new.0 c.put_byte-a.result _ c.loop-i-test.true c.loop-i.invariant.1 c.loop-i.invariant.2 c.low_byte.ensures c.put_byte-a.ensures in
     (omega arith, n.0, n.1)
 
 same_length : tie.Need-shape_of-out invariant-loop decreases-loop
-same_length c = let t = c in laid_same (c.loop-i.out-1, c.loop-i.a) _ _ _ c.loop-i.invariant.2
+same_length c = let t = c in laid_same (c.loop-i.out, c.loop-i.a) _ _ _ c.loop-i.invariant.2
 
 returns : tie.Need-returns invariant-loop decreases-loop
 returns c =
     let t = c in
     let s = t in
-    number-done (minus t.before) c.args.f.size c.loop-i.v c.loop-i.i (c.loop-i.out-1, c.loop-i.a) _ c.loop-i-test.false c.loop-i.invariant.2
+    number-done (minus t.before.before) c.args.f.size c.loop-i.v c.loop-i.i (c.loop-i.out, c.loop-i.a) _ c.loop-i-test.false c.loop-i.invariant.2
     ∙ ap (laid (c.args.out.now, c.args.at)) (number-whole c.args.f c.args.z _ c.size_of-v.result (to_z-of_z c.ranges.z) (size t.before))
 
 pub put_number_spec : {M : Type 1} → statement M

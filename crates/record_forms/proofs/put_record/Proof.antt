@@ -22,7 +22,7 @@ returns c =
     let p = b in
     let y = p in
     let s = y in
-    record_whole c.args.kind c.args.numbers.now c.args.out.now c.args.at c.byte_of.result c.put_byte-a.new.0 c.put_byte-a.result (c.put_body.new.0, c.put_body.result) c.byte_of.ensures c.put_byte-a.ensures c.put_body.ensures
+    record_whole c.args.kind c.args.numbers.now c.args.out.now c.args.at c.byte_of.result c.put_byte-a.new.out c.put_byte-a.result (c.put_body.new.out, c.put_body.result) c.byte_of.ensures c.put_byte-a.ensures c.put_body.ensures
 
 pub put_record_spec : {M : Type 1} → statement M
 put_record_spec = tie.close (tie.spec byte-of-requires put-byte-requires put-body-requires same_length returns)

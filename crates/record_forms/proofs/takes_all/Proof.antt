@@ -92,8 +92,8 @@ module _ (c : tie.After-takes invariant-loop decreases-loop) where
   all : cond c.takes.result (takes_all (drop (i + 1) (fields (formed turn))) (drop (i + 1) numbers)) false ≡ takes_all (fields (formed turn)) numbers
   all =
       ap (λ (b : Bool). cond b (takes_all (drop (i + 1) (fields (formed turn))) (drop (i + 1) numbers)) false) told
-      ∙ sym (takes-here (formed turn).form_of-form.result.fields (formed turn).form_of-form.result.count numbers i none (pos 0) (here turn) (there turn) turn.loop-i-test.taken)
-      ∙ turn.loop-i.inv.1
+      ∙ sym (takes-here (formed turn).form_of-form.result.fields (formed turn).form_of-form.result.count numbers i none (pos 0) (here turn) (there turn) turn.loop-i-test.true)
+      ∙ turn.loop-i.invariant.1
 
   all-by : (t : Bool) → c.takes.result ≡ t → cond t (takes_all (drop (i + 1) (fields (formed turn))) (drop (i + 1) numbers)) false ≡ takes_all (fields (formed turn)) numbers
   all-by t e = ap (λ (b : Bool). cond b (takes_all (drop (i + 1) (fields (formed turn))) (drop (i + 1) numbers)) false) (sym e) ∙ all
@@ -116,9 +116,9 @@ returns-3 : tie.Need-returns invariant-loop decreases-loop
 returns-3 c =
     let t = c in
     let f = t.before.before in
-    let a = length-drop c.loop-i.i (fields f) in
+    let a = length-drop c.loop-i.i (fields f.before) in
     let b = length-drop c.loop-i.i c.args.numbers.now in
-    let l = long f in
+    let l = long f.before in
     let e = c.if-count-numbers.false in
     let h = c.loop-i-test.false in
     sym (takes_none (drop c.loop-i.i (fields f)) (drop c.loop-i.i c.args.numbers.now) (omega arith) (omega arith))

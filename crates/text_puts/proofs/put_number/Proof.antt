@@ -32,10 +32,10 @@ returns c =
     let a = b in
     let s = a in
     weaken _ (omega arith) (join (join (join
-    (one s.args.out.now s.args.at s.args.name.now a.put_bytes-a.new.0 a.put_bytes-a.result (length s.args.name.now) (omega arith) a.put_bytes-a.ensures)
-    (one a.put_bytes-a.new.0 a.put_bytes-a.result (32 ∷ []) b.put_byte-b.new.0 b.put_byte-b.result 1 (lit≤ tt) b.put_byte-b.ensures))
-    (one b.put_byte-b.new.0 b.put_byte-b.result (decimal s.args.n) u.put_unsigned-c.new.0 u.put_unsigned-c.result 20 (unsigned_length s.args.n s.ranges.n.fits) u.put_unsigned-c.ensures))
-    (one u.put_unsigned-c.new.0 u.put_unsigned-c.result (10 ∷ []) d.put_byte.new.0 d.put_byte.result 1 (lit≤ tt) d.put_byte.ensures))
+    (one s.args.out.now s.args.at s.args.name.now a.put_bytes-a.new.out a.put_bytes-a.result (length s.args.name.now) (omega arith) a.put_bytes-a.ensures)
+    (one a.put_bytes-a.new.out a.put_bytes-a.result (32 ∷ []) b.put_byte-b.new.out b.put_byte-b.result 1 (lit≤ tt) b.put_byte-b.ensures))
+    (one b.put_byte-b.new.out b.put_byte-b.result (decimal s.args.n) u.put_unsigned-c.new.out u.put_unsigned-c.result 20 (unsigned_length s.args.n s.ranges.n.fits) u.put_unsigned-c.ensures))
+    (one u.put_unsigned-c.new.out u.put_unsigned-c.result (10 ∷ []) d.put_byte.new.out d.put_byte.result 1 (lit≤ tt) d.put_byte.ensures))
 
 pub put_number_spec : {M : Type 1} → statement M
 put_number_spec =

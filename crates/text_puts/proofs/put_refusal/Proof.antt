@@ -32,9 +32,9 @@ returns c =
     let b = u in
     let s = b in
     weaken _ (omega arith) (join
-    (one s.args.out.now s.args.at (114 ∷ 101 ∷ 102 ∷ 117 ∷ 115 ∷ 101 ∷ 100 ∷ 32 ∷ []) b.put_bytes-a.new.0 b.put_bytes-a.result 8 (lit≤ tt) b.put_bytes-a.ensures)
+    (one s.args.out.now s.args.at (114 ∷ 101 ∷ 102 ∷ 117 ∷ 115 ∷ 101 ∷ 100 ∷ 32 ∷ []) b.put_bytes-a.new.out b.put_bytes-a.result 8 (lit≤ tt) b.put_bytes-a.ensures)
     (join
-    (one b.put_bytes-a.new.0 b.put_bytes-a.result (decimal s.args.number) u.put_unsigned-b.new.0 u.put_unsigned-b.result 20 (unsigned_length s.args.number (omega arith)) u.put_unsigned-b.ensures)
+    (one b.put_bytes-a.new.out b.put_bytes-a.result (decimal s.args.number) u.put_unsigned-b.new.out u.put_unsigned-b.result 20 (unsigned_length s.args.number (omega arith)) u.put_unsigned-b.ensures)
     n.put_number.ensures))
 
 pub put_refusal_spec : {M : Type 1} → statement M

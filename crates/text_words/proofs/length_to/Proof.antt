@@ -13,7 +13,7 @@ use Rattle.text_words.proofs.length_to.Statement.{statement}
 use Rattle.text_words.proofs.length_to.Tie as tie
 
 good : (c : tie.Else-not-is_nonneg) → non_neg c.args.n ≡ true
-good c = sym (rw (to_z-of_z c.ranges.n) at c.is_nonneg.ensures) ∙ not-false _ c.if-not-is_nonneg.false
+good c = sym (rw (to_z-of_z c.ranges.n) at c.is_nonneg.ensures) ∙ c.if-not-is_nonneg.false
 
 size : (c : tie.After-abs-m) → c.abs-m.result ≡ nat_abs c.args.n
 size c = rw (to_z-of_z c.ranges.n) at c.abs-m.ensures
@@ -22,7 +22,7 @@ is-nonneg-requires : tie.Need-is_nonneg-requires
 is-nonneg-requires c κs = search rules
 
 returns : tie.Need-returns-then-not-is_nonneg
-returns c = sym (length-negative _ _ (sym (rw (to_z-of_z c.ranges.n) at c.is_nonneg.ensures) ∙ not-true _ c.if-not-is_nonneg.true))
+returns c = sym (length-negative _ _ (sym (rw (to_z-of_z c.ranges.n) at c.is_nonneg.ensures) ∙ c.if-not-is_nonneg.true))
 
 abs-requires : tie.Need-abs-m-requires
 abs-requires c κs = search rules

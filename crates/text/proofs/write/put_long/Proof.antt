@@ -22,7 +22,7 @@ same_length c = search rules
 returns : tie.Need-returns
 returns c =
     let d = c in
-    rw (decimal-digits d.decimal-k.result d.args.n d.decimal-k.ensures.1, ← d.decimal-k.ensures.2)
+    rw (decimal-digits d.decimal-k.result d.args.n d.decimal-k.ensures.1.0, ← d.decimal-k.ensures.1.1.0)
     c.put_bytes.ensures
 
 pub put_long_spec : {M : Type 1} → statement M

@@ -31,7 +31,7 @@ returns-2 : tie.Need-returns
 unfolding dash_of dash_written
 returns-2 c =
     let b = c in
-    let e = sym (told b.before) ∙ b.if-same.false in
+    let e = sym (told b.before.before.before.before.before) ∙ b.if-same.false in
     let u = c.unhex.ensures in
     (rw e u.0, rw e u.1)
 
