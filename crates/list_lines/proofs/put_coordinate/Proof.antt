@@ -50,7 +50,7 @@ returns c =
     let h : SFits w32 s.args.z = search rules in
     let g : SFits w64 s.args.z = record { sfits = fits s.before.before.before.before.before.before } in
     let m =
-    marked s.args.out.now s.args.at (signed_decimal s.args.z) 32 11 u.put_signed-end.new.out b.put_byte.new.0 u.put_signed-end.result b.put_byte.result
+    marked s.args.out.now s.args.at (signed_decimal s.args.z) 32 11 u.put_signed-end.new.out b.put_byte.new.out u.put_signed-end.result b.put_byte.result
     (short s.args.z h.sfits)
     (omega arith)
     (rw (to_z-of_z h, to_z-of_z g) at u.put_signed-end.ensures)

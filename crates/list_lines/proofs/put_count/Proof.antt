@@ -24,7 +24,7 @@ returns c =
     let u = b in
     let s = u in
     let m =
-    marked s.args.out.now s.args.at (decimal s.args.n) s.args.mark 20 u.put_unsigned-end.new.out b.put_byte.new.0 u.put_unsigned-end.result b.put_byte.result
+    marked s.args.out.now s.args.at (decimal s.args.n) s.args.mark 20 u.put_unsigned-end.new.out b.put_byte.new.out u.put_unsigned-end.result b.put_byte.result
     (unsigned_length s.args.n s.ranges.n.fits)
     (omega arith)
     u.put_unsigned-end.ensures

@@ -86,9 +86,9 @@ returns-2 c =
     let s = a.before.before in
     let z = s.args.z in
     let neg : lt_z z (pos 0) ≡ true = rw (to_z-of_z s.ranges.z) at i.if-z-lt0.true in
-    let b = (signed p).end in
+    let b = (signed p.before.before).end in
     let d = q.put_small.ensures.1 in
-    (rw (below z neg, ← size a) (append-more s.args.out.now s.args.at (45 ∷ []) _ p.put_byte-digits.new.out _ p.put_byte-digits.result _ (signed p) q.put_small.ensures.0), omega arith)
+    (rw (below z neg, ← size a.before.before.before.before) (append-more s.args.out.now s.args.at (45 ∷ []) _ p.put_byte-digits.new.out _ p.put_byte-digits.result _ (signed p.before.before) q.put_small.ensures.0), omega arith)
 
 cast-put-small-2 : tie.Need-overflow_cast-n-2
 cast-put-small-2 c = search rules

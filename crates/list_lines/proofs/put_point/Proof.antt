@@ -36,12 +36,12 @@ module _ (h : tie.After-put_bytes-d) where
   short-head : length (head_text v) ≤ 36
   short-head = let e = ap length start.requires.1 in let l = start.requires.2 in omega arith
 
-  begun : Appended xs start.args.at (head_text v) h.put_bytes-d.last.0 h.put_bytes-d.result
+  begun : Appended xs start.args.at (head_text v) h.put_bytes-d.new.out h.put_bytes-d.result
   begun =
       let l = short-head in
       let r = start.requires.0 in
       let e = rw start.requires.1 at h.put_bytes-d.ensures in
-      appended xs start.args.at (head_text v) h.put_bytes-d.last.0 h.put_bytes-d.result (omega arith) e.0 e.1
+      appended xs start.args.at (head_text v) h.put_bytes-d.new.out h.put_bytes-d.result (omega arith) e.0 e.1
 
 -- what stands after the five numbers before the last
 module _ (c : tie.After-put_short-g) where
@@ -58,8 +58,8 @@ module _ (c : tie.After-put_short-g) where
   stands =
       let at = (start h).args.at in
       let hd : SFits w32 (v h).d = search rules in
-      let m1 = h.put_bytes-d.last.0 in
-      let m2 = z.put_last-f.last.0 in
+      let m1 = h.put_bytes-d.new.out in
+      let m2 = z.put_last-f.new.out in
       let a2 = append-more (xs h) at (head_text (v h)) (coordinate_text (v h).d) m1 m2 h.put_bytes-d.result z.put_last-f.result (begun h) (rw (to_z-of_z hd) at z.put_last-f.ensures.0) in
       append-more (xs h) at (head_text (v h) ++ coordinate_text (v h).d) (count_text (counted h).before.exponent-e.result 32) m2 c.put_short-g.new.out z.put_last-f.result c.put_short-g.result a2 c.put_short-g.ensures.0
 
@@ -98,11 +98,11 @@ put-short-requires c κs =
     let z = c in
     let h = z.before.before.before.before.before in
     let l = short-head h.before.before.before in
-    let e = (begun h).end in
-    let f = (begun h).same in
+    let e = (begun h.before.before.before).end in
+    let f = (begun h.before.before.before).same in
     let b = z.put_last-f.ensures.1 in
     let s = z.put_last-f.ensures.0.same in
-    let r = (start h).requires.0 in
+    let r = (start h.before.before.before).requires.0 in
     let x : Fits w32 (counted h).before.exponent-e.result = search rules in
     let y = x.fits in
     (omega arith, omega arith)
@@ -112,7 +112,7 @@ put-short-requires-2 c κs =
     let p = c.before.before.before in
     let l = (stands p).same in
     let s = short p in
-    let r = (start (h p)).pre.0 in
+    let r = (start (h p)).requires.0 in
     let x : Fits w32 (counted (h p)).before.exponent-e.result = search rules in
     let y = x.fits in
     let m = (counted (h p)).pulse_count-m.ensures in
@@ -133,10 +133,10 @@ returns c =
     let e = (counted b).before.exponent-e.ensures in
     let m = (counted b).pulse_count-m.ensures in
     let last = q.put_short.ensures in
-    let all = append-more (xs b) (start b).args.at (front p.before.before) (count_text (counted b).pulse_count-m.result 10) p.put_short-g.new.out q.put_short.new.0 p.put_short-g.result q.put_short.result (stands p) last.0 in
+    let all = append-more (xs b) (start b).args.at (front p.before.before) (count_text (counted b).pulse_count-m.result 10) p.put_short-g.new.out q.put_short.new.out p.put_short-g.result q.put_short.result (stands p.before.before) last.0 in
     let s = short p in
     let l = last.1 in
-    (subst (λ (t : List ℕ). Appended (xs b) (start b).args.at t q.put_short.new.0 q.put_short.result) (line (start b).args.k (v b) (counted b).before.exponent-e.result (counted b).pulse_count-m.result e m) all, omega arith)
+    (subst (λ (t : List ℕ). Appended (xs b) (start b).args.at t q.put_short.new.out q.put_short.result) (line (start b).args.k (v b) (counted b).before.exponent-e.result (counted b).pulse_count-m.result e m) all, omega arith)
 
 pub put_point_spec : {M : Type 1} → statement M
 put_point_spec =

@@ -116,7 +116,7 @@ loop-again c =
     let a = t.loop-i.invariant.1 in (
       omega arith,
       omega arith,
-      lines_next s.args.k s.args.points.now t.loop-i.i v.point_at-v.result s.args.out.now t.loop-i.out q.put_point-at.new.0 t.loop-i.at q.put_point-at.result (there l) v.point_at-v.ensures t.loop-i.invariant.2 q.put_point-at.ensures.0,
+      lines_next s.args.k s.args.points.now t.loop-i.i v.point_at-v.result s.args.out.now t.loop-i.out q.put_point-at.new.out t.loop-i.at q.put_point-at.result (there l.before.before.before.before) v.point_at-v.ensures t.loop-i.invariant.2 q.put_point-at.ensures.0,
       spelled j,
     )
 

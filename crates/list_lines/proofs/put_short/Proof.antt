@@ -38,7 +38,7 @@ returns-2 c =
     let u = b in
     let s = u in
     let m =
-    marked s.args.out.now s.args.at (decimal s.args.n) s.args.mark 10 u.put_unsigned-end.new.out b.put_byte.new.0 u.put_unsigned-end.result b.put_byte.result
+    marked s.args.out.now s.args.at (decimal s.args.n) s.args.mark 10 u.put_unsigned-end.new.out b.put_byte.new.out u.put_unsigned-end.result b.put_byte.result
     (decimal-length 9 s.args.n (lt_of_lt_of_le s.requires.0 (lit≤ tt)))
     (omega arith)
     u.put_unsigned-end.ensures

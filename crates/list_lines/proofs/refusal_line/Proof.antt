@@ -30,8 +30,8 @@ module _ (p : tie.After-put_bytes-a) where
   abbrev xs : List ℕ
   xs = start.args.line.now
 
-  one : Appended xs 0 refused p.put_bytes-a.last.0 p.put_bytes-a.result
-  one = let h = start.requires in appended xs 0 refused p.put_bytes-a.last.0 p.put_bytes-a.result (omega arith) p.put_bytes-a.ensures.0 p.put_bytes-a.ensures.1
+  one : Appended xs 0 refused p.put_bytes-a.new.out p.put_bytes-a.result
+  one = let h = start.requires in appended xs 0 refused p.put_bytes-a.new.out p.put_bytes-a.result (omega arith) p.put_bytes-a.ensures.0 p.put_bytes-a.ensures.1
 
 -- after ` at `
 module _ (q : tie.After-put_bytes-c) where
@@ -44,26 +44,26 @@ module _ (q : tie.After-put_bytes-c) where
   abbrev shown : ℕ
   shown = numbered.number.result
 
-  two : Appended (xs begun) 0 (refused ++ decimal shown) numbered.put_number-b.last.0 numbered.put_number-b.result
-  two = append-more (xs begun) 0 refused (decimal shown) begun.put_bytes-a.last.0 numbered.put_number-b.last.0 begun.put_bytes-a.result numbered.put_number-b.result (one begun) numbered.put_number-b.ensures.0
+  two : Appended (xs begun) 0 (refused ++ decimal shown) numbered.put_number-b.new.out numbered.put_number-b.result
+  two = append-more (xs begun) 0 refused (decimal shown) begun.put_bytes-a.new.out numbered.put_number-b.new.out begun.put_bytes-a.result numbered.put_number-b.result (one begun) numbered.put_number-b.ensures.0
 
   bound : numbered.put_number-b.result ≤ 28
   bound = let e = (one begun).end in let b = numbered.put_number-b.ensures.1 in omega arith
 
-  three : Appended (xs begun) 0 (refused ++ decimal shown ++ at_place) q.put_bytes-c.last.0 q.put_bytes-c.result
+  three : Appended (xs begun) 0 (refused ++ decimal shown ++ at_place) q.put_bytes-c.new.out q.put_bytes-c.result
   three =
       let h = (start begun).requires in
       let s = two.same in
       let b = bound in
-      let a = appended numbered.put_number-b.last.0 numbered.put_number-b.result at_place q.put_bytes-c.last.0 q.put_bytes-c.result (omega arith) q.put_bytes-c.ensures.0 q.put_bytes-c.ensures.1 in
-      append-more (xs begun) 0 (refused ++ decimal shown) at_place numbered.put_number-b.last.0 q.put_bytes-c.last.0 numbered.put_number-b.result q.put_bytes-c.result (two) a
+      let a = appended numbered.put_number-b.new.out numbered.put_number-b.result at_place q.put_bytes-c.new.out q.put_bytes-c.result (omega arith) q.put_bytes-c.ensures.0 q.put_bytes-c.ensures.1 in
+      append-more (xs begun) 0 (refused ++ decimal shown) at_place numbered.put_number-b.new.out q.put_bytes-c.new.out numbered.put_number-b.result q.put_bytes-c.result (two) a
 
   reach : q.put_bytes-c.result ≤ 32
   reach =
       let h = (start begun).requires in
       let s = two.same in
       let b = bound in
-      let a = appended numbered.put_number-b.last.0 numbered.put_number-b.result at_place q.put_bytes-c.last.0 q.put_bytes-c.result (omega arith) q.put_bytes-c.ensures.0 q.put_bytes-c.ensures.1 in
+      let a = appended numbered.put_number-b.new.out numbered.put_number-b.result at_place q.put_bytes-c.new.out q.put_bytes-c.result (omega arith) q.put_bytes-c.ensures.0 q.put_bytes-c.ensures.1 in
       let e = a.end in
       omega arith
 
@@ -89,7 +89,7 @@ put-count-requires c κs =
     let q = c.before.before.before in
     let s = (three q).same in
     let r = reach q in
-    let h = (start (begun q)).pre in
+    let h = (start (begun q)).requires in
     rw s (omega arith)
 
 same_length : tie.Need-shape_of-line
@@ -101,13 +101,13 @@ returns c =
     let q = k.before.before.before.before in
     let s = start (begun q.before.before) in
     let place = s.args.place in
-    let all = append-more (xs (begun q)) 0 (refused ++ decimal (shown q) ++ at_place) (count_text place 10) q.put_bytes-c.new.0 k.put_count.new.0 q.put_bytes-c.result k.put_count.result (three q) k.put_count.ensures.0 in
+    let all = append-more (xs (begun q.before.before)) 0 (refused ++ decimal (shown q.before.before) ++ at_place) (count_text place 10) q.put_bytes-c.new.out k.put_count.new.out q.put_bytes-c.result k.put_count.result (three q) k.put_count.ensures.0 in
     let f = all.same in
     let g = k.put_count.ensures.1 in
     let r = reach q in
     let h = s.pre in (
-      subst (λ (l : List ℕ). Appended (xs (begun q)) 0 l k.put_count.new.0 k.put_count.result) (spelt (shown q) (number s.args.f) place (numbered q).before.number.ensures) all,
-      (omega arith, sym (length-take-le k.put_count.result k.put_count.new.0 (omega arith))),
+      subst (λ (l : List ℕ). Appended (xs (begun q)) 0 l k.put_count.new.out k.put_count.result) (spelt (shown q) (number s.args.f) place (numbered q).before.number.ensures) all,
+      (omega arith, sym (length-take-le k.put_count.result k.put_count.new.out (omega arith))),
     )
 
 pub refusal_line_spec : {M : Type 1} → statement M

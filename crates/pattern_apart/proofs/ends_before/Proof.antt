@@ -14,7 +14,7 @@ use Rattle.pattern_apart.proofs.ends_before.Statement.{statement}
 use Rattle.pattern_apart.proofs.ends_before.Tie as tie
 
 wide : {x z : ℤ} → x ≡ z → nat_abs z ≤ 2 ^ 31 → to_z w64 (of_z w64 x) ≡ z
-wide {x} {z} e h = ap (λ z. to_z w64 (of_z w64 z)) e ∙ to_z-of_z (size→fits (omega arith))
+wide {x} {z} e h = ap (λ z. to_z w64 (of_z w64 z)) e ∙ to_z-of_z {w = w64} (size→fits (omega arith))
 
 count : {x n : ℕ} → x ≡ n → n ≤ 100 → to_z w64 x ≡ pos n
 count {x} e h = to_z_pos w64 {n = x} (omega arith) ∙ ap pos e

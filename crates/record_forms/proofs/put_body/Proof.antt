@@ -99,8 +99,8 @@ loop-again c =
     let h = c.loop-i-test.true in
     let fits : SFits w64 (get_or (numbers f) (i l.before.before) (pos 0)) = search rules in (
       omega arith,
-      (taken l).1,
-      body-again f.form_of-form.result.fields f.form_of-form.result.count (numbers f) (i l) none (pos 0) (here l) (there l) h (c.loop-i.out-1, c.loop-i.a) (c.put_number-a.new.0, c.put_number-a.result) _ c.loop-i.invariant.2 (rw (to_z-of_z fits) at c.put_number-a.ensures),
+      (taken l.before.before).1,
+      body-again f.form_of-form.result.fields f.form_of-form.result.count (numbers f) (i l.before.before) none (pos 0) (here l.before.before) (there l.before.before) h (c.loop-i.out, c.loop-i.a) (c.put_number-a.new.out, c.put_number-a.result) _ c.loop-i.invariant.2 (rw (to_z-of_z fits) at c.put_number-a.ensures),
     )
 
 same_length : tie.Need-shape_of-out invariant-loop decreases-loop
@@ -113,8 +113,8 @@ returns c =
     let s = f.before.before in
     let l = long f.before in
     let h = c.loop-i-test.false in
-    body-done (fields f.before) (numbers f) c.loop-i.i (c.loop-i.out-1, c.loop-i.a) _ (omega arith) c.loop-i.invariant.2
-    ∙ ap (λ (l : List Field). laid (c.args.out.now, c.args.at) (body_bytes l (numbers f))) (is f)
+    body-done (fields f.before) (numbers f.before) c.loop-i.i (c.loop-i.out, c.loop-i.a) _ (omega arith) c.loop-i.invariant.2
+    ∙ ap (λ (l : List Field). laid (c.args.out.now, c.args.at) (body_bytes l (numbers f.before))) (is f.before)
 
 pub put_body_spec : {M : Type 1} → statement M
 put_body_spec =

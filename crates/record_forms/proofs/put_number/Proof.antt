@@ -52,7 +52,7 @@ loop-again c =
     let b = q in
     let l = b in
     let t = l in
-    let n = number-again (minus t.before.before.before.before.before.before.before) c.args.f.size c.loop-i.v c.loop-i.i c.loop-i.out c.loop-i.a c.low_byte.result c.put_byte-a.new.0 c.put_byte-a.result _ c.loop-i-test.true c.loop-i.invariant.1 c.loop-i.invariant.2 c.low_byte.ensures c.put_byte-a.ensures in
+    let n = number-again (minus t.before.before.before.before.before.before.before) c.args.f.size c.loop-i.v c.loop-i.i c.loop-i.out c.loop-i.a c.low_byte.result c.put_byte-a.new.out c.put_byte-a.result _ c.loop-i-test.true c.loop-i.invariant.1 c.loop-i.invariant.2 c.low_byte.ensures c.put_byte-a.ensures in
     (omega arith, n.0, n.1)
 
 same_length : tie.Need-shape_of-out invariant-loop decreases-loop
@@ -63,7 +63,7 @@ returns c =
     let t = c in
     let s = t in
     number-done (minus t.before.before) c.args.f.size c.loop-i.v c.loop-i.i (c.loop-i.out, c.loop-i.a) _ c.loop-i-test.false c.loop-i.invariant.2
-    ∙ ap (laid (c.args.out.now, c.args.at)) (number-whole c.args.f c.args.z _ c.size_of-v.result (to_z-of_z c.ranges.z) (size t.before))
+    ∙ ap (laid (c.args.out.now, c.args.at)) (number-whole c.args.f c.args.z _ c.size_of-v.result (to_z-of_z c.ranges.z) (size t.before.before))
 
 pub put_number_spec : {M : Type 1} → statement M
 put_number_spec =

@@ -101,7 +101,7 @@ module _ (c : tie.After-takes invariant-loop decreases-loop) where
 returns-2 : tie.Need-returns-then-not-takes invariant-loop decreases-loop
 returns-2 c =
     let k = c.before in
-    all-by k false (not-true _ c.if-not-takes.true) ∙ ap (λ (l : List Field). takes_all l (numbers k)) (is (formed (turn k)))
+    all-by k false (c.if-not-takes.true) ∙ ap (λ (l : List Field). takes_all l (numbers k)) (is (formed (turn k)))
 
 add-i : tie.Need-overflow_add-i invariant-loop decreases-loop
 add-i c = omega arith
@@ -110,7 +110,7 @@ loop-less : tie.Need-loop-i-smaller invariant-loop decreases-loop
 loop-less c = omega arith
 
 loop-again : tie.Need-loop-i-preserved invariant-loop decreases-loop
-loop-again c = (omega arith, all-by c.before true (not-false _ c.if-not-takes.false))
+loop-again c = (omega arith, all-by c.before true (c.if-not-takes.false))
 
 returns-3 : tie.Need-returns invariant-loop decreases-loop
 returns-3 c =
@@ -121,8 +121,8 @@ returns-3 c =
     let l = long f.before in
     let e = c.if-count-numbers.false in
     let h = c.loop-i-test.false in
-    sym (takes_none (drop c.loop-i.i (fields f)) (drop c.loop-i.i c.args.numbers.now) (omega arith) (omega arith))
-    ∙ c.loop-i.invariant.1 ∙ ap (λ (l : List Field). takes_all l c.args.numbers.now) (is f)
+    sym (takes_none (drop c.loop-i.i (fields f.before)) (drop c.loop-i.i c.args.numbers.now) (omega arith) (omega arith))
+    ∙ c.loop-i.invariant.1 ∙ ap (λ (l : List Field). takes_all l c.args.numbers.now) (is f.before)
 
 pub takes_all_spec : {M : Type 1} → statement M
 takes_all_spec =

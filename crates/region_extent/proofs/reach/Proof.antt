@@ -39,7 +39,7 @@ enum-known-region-2 : tie.Need-enum_known-region-in-Ellipse-1
 enum-known-region-2 c = search rules
 
 over-ellipse-requires : tie.Need-over_ellipse-requires
-over-ellipse-requires c κs = ap accepted (sym c.in-Ellipse.is) ∙ taken c.before.before.before
+over-ellipse-requires c κs = ap accepted (sym c.in-Ellipse.is) ∙ taken c.before
 
 enum-known-region-3 : tie.Need-enum_known-region-in-Slice-1
 enum-known-region-3 c = search rules

@@ -49,7 +49,7 @@ module _ (l : tie.At-loop-at invariant-loop decreases-loop) where
 -- a word that is a number
 module _ (c : tie.In-Value invariant-loop decreases-loop) where
   abbrev here : tie.At-loop-at invariant-loop decreases-loop
-  here = c.before.before.before.before.before.before
+  here = c.before.before.before.before
 
   abbrev value : ℤ
   value = c.in-Value.v
@@ -100,7 +100,7 @@ no-numbers-requires c κs = search rules
 
 returns-2 : tie.Need-returns-in_default invariant-loop decreases-loop
 returns-2 c =
-    let l = c.before.before.before.before.before.before in
+    let l = c.before.before.before.before.before in
     let n = c in
     let e : room l ≡ suc ((start l).args.most - (l.loop-at.count + 1)) = let e = n.if-most-count.false in omega arith in
     let f = c.no_numbers.ensures in (

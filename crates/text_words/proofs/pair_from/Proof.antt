@@ -60,7 +60,7 @@ enum_told : tie.Need-enum_told-1
 enum_told c = search rules
 
 returns : tie.Need-returns-in_default
-returns c = let k = c.before.before in sym (pair-none (line k) (start k).args.from (sym (first-is k) ∙ ap wide_read_of c.in_default.is))
+returns c = let k = c.before in sym (pair-none (line k) (start k).args.from (sym (first-is k) ∙ ap wide_read_of c.in_default.is))
 
 wide-word-at-requires-2 : tie.Need-wide_word_at-second-requires
 wide-word-at-requires-2 c κs = search rules
@@ -73,7 +73,7 @@ enum-told-2 c = search rules
 
 returns-2 : tie.Need-returns-in_default-second
 returns-2 c =
-    let k = c.before.before in
+    let k = c.before in
     sym (pair_one (line (one k)) (start (one k)).args.from (p k) (at k) (first-told k) (sym k.wide_word_at-second.ensures ∙ ap wide_read_of c.in_default-second.is))
 
 returns-3 : tie.Need-returns-then-end-line

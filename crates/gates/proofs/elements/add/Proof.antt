@@ -10,7 +10,7 @@ use Rattle.gates.proofs.elements.add.Tie as tie
 fits : (c : tie.Start) → SFits w32 (◌+ℤ◌ c.args.a c.args.b)
 fits c = size→fits (omega (arith, size-+ c.args.a c.args.b, c.requires))
 
-add-result : tie.Need-overflow-add-result
+add-result : tie.Need-overflow_add-result
 add-result c = let h = fits c in search rules
 
 returns : tie.Need-returns

@@ -23,18 +23,18 @@ sub-requires-4 c κs = search rules
 
 returns : tie.Need-returns
 returns c =
-    let sc = c.before.before.before in
-    let sb = sc.before.before.before in
-    let sa = sb.before.before.before in
-    let v = sa.before.before.before.args.v in
-    let w = sa.before.before.before.args.w in
-    let h = sa.before.before.before.requires in
+    let sc = c in
+    let sb = sc in
+    let sa = sb in
+    let v = c.args.v in
+    let w = c.args.w in
+    let h = c.requires in
     ext
-    (back w32 sa.sub.type-inv ∙ sa.sub.ensures ∙ ap₂ ◌-ℤ◌ (read v.a h.0.a) (read w.a h.1.a))
-    (back w32 sb.sub2.type-inv ∙ sb.sub2.ensures ∙ ap₂ ◌-ℤ◌ (read v.b h.0.b) (read w.b h.1.b))
-    (back w32 sc.sub3.type-inv ∙ sc.sub3.ensures ∙ ap₂ ◌-ℤ◌ (read v.c h.0.c) (read w.c h.1.c))
-    (back w32 c.sub4.type-inv ∙ c.sub4.ensures ∙ ap₂ ◌-ℤ◌ (read v.d h.0.d) (read w.d h.1.d))
+    (back w32 c.sub.type_inv ∙ c.sub.ensures ∙ ap₂ ◌-ℤ◌ (read v.a h.0.a) (read w.a h.1.a))
+    (back w32 c.sub-2.type_inv ∙ c.sub-2.ensures ∙ ap₂ ◌-ℤ◌ (read v.b h.0.b) (read w.b h.1.b))
+    (back w32 c.sub-3.type_inv ∙ c.sub-3.ensures ∙ ap₂ ◌-ℤ◌ (read v.c h.0.c) (read w.c h.1.c))
+    (back w32 c.sub-4.type_inv ∙ c.sub-4.ensures ∙ ap₂ ◌-ℤ◌ (read v.d h.0.d) (read w.d h.1.d))
     ∙ sym (minus_parts v w)
 
-pub less-spec : {M : Type 1} → statement M
-less-spec = tie.close (tie.spec sub-requires sub-requires-2 sub-requires-3 sub-requires-4 returns)
+pub less_spec : {M : Type 1} → statement M
+less_spec = tie.close (tie.spec sub-requires sub-requires-2 sub-requires-3 sub-requires-4 returns)

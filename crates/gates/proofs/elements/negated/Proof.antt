@@ -11,11 +11,11 @@ use Rattle.gates.proofs.elements.negated.Tie as tie
 fits : (c : tie.Start) → SFits w32 (pos 0 -ℤ c.args.a)
 fits c = size→fits (omega (arith, size-- (pos 0) c.args.a, c.requires))
 
-sub-result : tie.Need-overflow-sub-result
+sub-result : tie.Need-overflow_sub-result
 sub-result c = rw (to_z-of_z c.ranges.a) (fits c)
 
 returns : tie.Need-returns
 returns c = rw (to_z-of_z c.ranges.a) (to_z-of_z (fits c) ∙ +ℤ_idl (neg_ℤ c.args.a))
 
-pub negated-spec : {M : Type 1} → statement M
-negated-spec = tie.close (tie.spec sub-result returns)
+pub negated_spec : {M : Type 1} → statement M
+negated_spec = tie.close (tie.spec sub-result returns)

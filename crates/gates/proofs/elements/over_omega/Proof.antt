@@ -14,17 +14,17 @@ negated-requires c κs = search rules
 
 returns : tie.Need-returns
 returns c =
-    let s = c.before in
-    let v = s.before.before.args.v in
+    let s = c in
+    let v = c.args.v in
     let ha : SFits w32 v.a = search rules in
     let hb : SFits w32 v.b = search rules in
     let hc : SFits w32 v.c = search rules in
     let hd : SFits w32 v.d = search rules in
     ext
-    (back w32 s.negated.type-inv ∙ s.negated.ensures ∙ ap neg_ℤ (to_z-of_z hd))
+    (back w32 c.negated.type_inv ∙ c.negated.ensures ∙ ap neg_ℤ (to_z-of_z hd))
     (to_z-of_z ha)
     (to_z-of_z hb)
     (to_z-of_z hc)
 
-pub over-omega-spec : {M : Type 1} → statement M
-over-omega-spec = tie.close (tie.spec negated-requires returns)
+pub over_omega_spec : {M : Type 1} → statement M
+over_omega_spec = tie.close (tie.spec negated-requires returns)

@@ -10,39 +10,39 @@ use Rattle.ring.specs.Point.{ext}
 use Rattle.gates.proofs.elements.over_root2.Statement.{statement}
 use Rattle.gates.proofs.elements.over_root2.Tie as tie
 
-half-difference-requires : tie.Need-half-difference-requires
+half-difference-requires : tie.Need-half_difference-requires
 half-difference-requires c κs = search rules
 
-half-sum-requires : tie.Need-half-sum-requires
+half-sum-requires : tie.Need-half_sum-requires
 half-sum-requires c κs = search rules
 
-half-sum-requires-2 : tie.Need-half-sum-requires-2
+half-sum-requires-2 : tie.Need-half_sum-requires-2
 half-sum-requires-2 c κs = search rules
 
-half-difference-requires-2 : tie.Need-half-difference-requires-2
+half-difference-requires-2 : tie.Need-half_difference-requires-2
 half-difference-requires-2 c κs = search rules
 
-d-fits : (c : tie.After-half-difference) → SFits w32 c.before.before.before.args.v.d
+d-fits : (c : tie.After-half_difference) → SFits w32 c.args.v.d
 d-fits c = search rules
 
 returns : tie.Need-returns
 returns c =
-    let sc = c.before.before.before in
-    let sb = sc.before.before.before in
+    let sc = c in
+    let sb = sc in
     let sa = sb.before.before.before in
-    let v = sa.before.before.before.args.v in
+    let v = c.args.v in
     let ha : SFits w32 v.a = search rules in
     let hb : SFits w32 v.b = search rules in
     let hc : SFits w32 v.c = search rules in
     let hd : SFits w32 v.d = d-fits sa in
     ext
-    (back w32 sa.half-difference.type-inv ∙ sa.half-difference.ensures ∙ ap half (ap₂ ◌-ℤ◌ (to_z-of_z hb) (to_z-of_z hd)))
-    (back w32 sb.half-sum.type-inv ∙ sb.half-sum.ensures ∙ ap half (ap₂ ◌+ℤ◌ (to_z-of_z hc) (to_z-of_z ha)))
-    (back w32 sc.half-sum2.type-inv ∙ sc.half-sum2.ensures ∙ ap half (ap₂ ◌+ℤ◌ (to_z-of_z hd) (to_z-of_z hb)))
-    (back w32 c.half-difference2.type-inv ∙ c.half-difference2.ensures ∙ ap half (ap₂ ◌-ℤ◌ (to_z-of_z hc) (to_z-of_z ha)))
+    (back w32 c.half_difference.type_inv ∙ c.half_difference.ensures ∙ ap half (ap₂ ◌-ℤ◌ (to_z-of_z hb) (to_z-of_z hd)))
+    (back w32 c.half_sum.type_inv ∙ c.half_sum.ensures ∙ ap half (ap₂ ◌+ℤ◌ (to_z-of_z hc) (to_z-of_z ha)))
+    (back w32 c.half_sum-2.type_inv ∙ c.half_sum-2.ensures ∙ ap half (ap₂ ◌+ℤ◌ (to_z-of_z hd) (to_z-of_z hb)))
+    (back w32 c.half_difference-2.type_inv ∙ c.half_difference-2.ensures ∙ ap half (ap₂ ◌-ℤ◌ (to_z-of_z hc) (to_z-of_z ha)))
 
-pub over-root2-spec : {M : Type 1} → statement M
-over-root2-spec =
+pub over_root2_spec : {M : Type 1} → statement M
+over_root2_spec =
     tie.close
     (tie.spec
     half-difference-requires

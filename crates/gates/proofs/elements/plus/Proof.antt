@@ -22,18 +22,18 @@ add-requires-4 c κs = search rules
 
 returns : tie.Need-returns
 returns c =
-    let sc = c.before.before.before in
-    let sb = sc.before.before.before in
-    let sa = sb.before.before.before in
-    let v = sa.before.before.before.args.v in
-    let w = sa.before.before.before.args.w in
-    let h = sa.before.before.before.requires in
+    let sc = c in
+    let sb = sc in
+    let sa = sb in
+    let v = c.args.v in
+    let w = c.args.w in
+    let h = c.requires in
     ext
-    (back w32 sa.add.type-inv ∙ sa.add.ensures ∙ ap₂ ◌+ℤ◌ (read v.a h.0.a) (read w.a h.1.a))
-    (back w32 sb.add2.type-inv ∙ sb.add2.ensures ∙ ap₂ ◌+ℤ◌ (read v.b h.0.b) (read w.b h.1.b))
-    (back w32 sc.add3.type-inv ∙ sc.add3.ensures ∙ ap₂ ◌+ℤ◌ (read v.c h.0.c) (read w.c h.1.c))
-    (back w32 c.add4.type-inv ∙ c.add4.ensures ∙ ap₂ ◌+ℤ◌ (read v.d h.0.d) (read w.d h.1.d))
+    (back w32 c.add.type_inv ∙ c.add.ensures ∙ ap₂ ◌+ℤ◌ (read v.a h.0.a) (read w.a h.1.a))
+    (back w32 c.add-2.type_inv ∙ c.add-2.ensures ∙ ap₂ ◌+ℤ◌ (read v.b h.0.b) (read w.b h.1.b))
+    (back w32 c.add-3.type_inv ∙ c.add-3.ensures ∙ ap₂ ◌+ℤ◌ (read v.c h.0.c) (read w.c h.1.c))
+    (back w32 c.add-4.type_inv ∙ c.add-4.ensures ∙ ap₂ ◌+ℤ◌ (read v.d h.0.d) (read w.d h.1.d))
     ∙ sym (sum-parts v w)
 
-pub plus-spec : {M : Type 1} → statement M
-plus-spec = tie.close (tie.spec add-requires add-requires-2 add-requires-3 add-requires-4 returns)
+pub plus_spec : {M : Type 1} → statement M
+plus_spec = tie.close (tie.spec add-requires add-requires-2 add-requires-3 add-requires-4 returns)

@@ -10,7 +10,7 @@ use Rattle.gates.proofs.elements.sub.Tie as tie
 fits : (c : tie.Start) → SFits w32 (◌-ℤ◌ c.args.a c.args.b)
 fits c = size→fits (omega (arith, size-- c.args.a c.args.b, c.requires))
 
-sub-result : tie.Need-overflow-sub-result
+sub-result : tie.Need-overflow_sub-result
 sub-result c = let h = fits c in search rules
 
 returns : tie.Need-returns

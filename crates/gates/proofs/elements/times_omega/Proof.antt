@@ -14,7 +14,7 @@ negated-requires c κs = search rules
 
 returns : tie.Need-returns
 returns c =
-    let v = c.before.before.before.args.v in
+    let v = c.args.v in
     let ha : SFits w32 v.a = search rules in
     let hb : SFits w32 v.b = search rules in
     let hc : SFits w32 v.c = search rules in
@@ -23,7 +23,7 @@ returns c =
     (to_z-of_z hb)
     (to_z-of_z hc)
     (to_z-of_z hd)
-    (back w32 c.before.negated.type-inv ∙ c.before.negated.ensures ∙ ap neg_ℤ (to_z-of_z ha))
+    (back w32 c.negated.type_inv ∙ c.negated.ensures ∙ ap neg_ℤ (to_z-of_z ha))
 
-pub times-omega-spec : {M : Type 1} → statement M
-times-omega-spec = tie.close (tie.spec negated-requires returns)
+pub times_omega_spec : {M : Type 1} → statement M
+times_omega_spec = tie.close (tie.spec negated-requires returns)

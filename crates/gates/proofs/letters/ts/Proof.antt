@@ -9,50 +9,50 @@ use Rattle.gates.specs.Written.{tally, tally-more, one-small}
 use Rattle.gates.proofs.letters.ts.Statement.{statement}
 use Rattle.gates.proofs.letters.ts.Tie as tie
 
-abbrev invariant-loop : tie.invariant-loop
+abbrev invariant-loop : tie.invariant-loop-i
 invariant-loop a n m₀ i₀ m i = (i ≤ n) × (n ≤ length a) × (length a ≡ 128) × (m ≤ i) × (m ≡ tally (take i a))
 
-abbrev decreases-loop : tie.decreases-loop
+abbrev decreases-loop : tie.decreases-loop-i
 decreases-loop a n m₀ i₀ m i = n - i
 
-loop-holds : tie.Need-loop-init invariant-loop decreases-loop
+loop-holds : tie.Need-loop-i-init invariant-loop decreases-loop
 loop-holds c =
-    let h : length c.before.args.w.letters ≡ 128 = search rules in
+    let h : length c.args.w.letters ≡ 128 = search rules in
     (omega arith, omega arith, h, omega arith, refl)
 
-array-read-one-t : tie.Need-array-read-one-t invariant-loop decreases-loop
+array-read-one-t : tie.Need-bounds-a-i invariant-loop decreases-loop
 array-read-one-t c = search rules
 
-one-t-requires : tie.Need-one-t-requires invariant-loop decreases-loop
+one-t-requires : tie.Need-one_t-m-requires invariant-loop decreases-loop
 one-t-requires c κs = search rules
 
-add-m : tie.Need-overflow-add-m invariant-loop decreases-loop
-add-m c = let l = c.before.before.loop in omega (arith, c.one-t.ensures, one-small (get_or c.before.before.before.before.args.w.letters l.i 0))
+add-m : tie.Need-overflow_add-m invariant-loop decreases-loop
+add-m c = let l = c.loop-i in omega (arith, c.one_t-m.ensures, one-small (get_or c.args.w.letters l.i 0))
 
-add-i : tie.Need-overflow-add-i invariant-loop decreases-loop
+add-i : tie.Need-overflow_add-i invariant-loop decreases-loop
 add-i c = search rules
 
-loop-less : tie.Need-loop-smaller invariant-loop decreases-loop
+loop-less : tie.Need-loop-i-smaller invariant-loop decreases-loop
 loop-less c = search rules
 
-loop-again : tie.Need-loop-preserved invariant-loop decreases-loop
+loop-again : tie.Need-loop-i-preserved invariant-loop decreases-loop
 loop-again c =
-    let l = c.before.before.loop in
-    let a = c.before.before.before.before.args.w.letters in
+    let l = c.loop-i in
+    let a = c.args.w.letters in
     let x = get_or a l.i 0 in
     let h : l.i < length a = omega (arith, l.invariant) in
-    let e : l.m + c.one-t.result ≡ tally (take (l.i + 1) a) = ap₂ ◌+◌ l.invariant.4 c.one-t.ensures ∙ sym (tally-more (take l.i a) x) ∙ ap tally (sym (take-suc a l.i 0 h)) ∙ ap (λ n. tally (take n a)) (sym (add-one l.i)) in
-    (omega arith, l.invariant.1, l.invariant.2, omega (arith, c.one-t.ensures, one-small x), e)
+    let e : l.m + c.one_t-m.result ≡ tally (take (l.i + 1) a) = ap₂ ◌+◌ l.invariant.4 c.one_t-m.ensures ∙ sym (tally-more (take l.i a) x) ∙ ap tally (sym (take-suc a l.i 0 h)) ∙ ap (λ n. tally (take n a)) (sym (add-one l.i)) in
+    (omega arith, l.invariant.1, l.invariant.2, omega (arith, c.one_t-m.ensures, one-small x), e)
 
 returns : tie.Need-returns invariant-loop decreases-loop
 returns c =
-    let l = c.before.loop in
-    let w = c.before.before.before.args.w in
+    let l = c.loop-i in
+    let w = c.args.w in
     let e : l.i ≡ w.len = omega arith in
     l.invariant.4 ∙ ap (λ n. tally (take n w.letters)) e
 
-pub ts-spec : {M : Type 1} → statement M
-ts-spec =
+pub ts_spec : {M : Type 1} → statement M
+ts_spec =
     tie.close
     (tie.spec
     invariant-loop

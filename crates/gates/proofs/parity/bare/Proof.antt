@@ -5,7 +5,7 @@ use borrow.Author.Rules.{rules}
 use Rattle.gates.proofs.parity.bare.Statement.{statement}
 use Rattle.gates.proofs.parity.bare.Tie as tie
 
-sum-requires : tie.Need-sum-requires
+sum-requires : tie.Need-sum-s-requires
 sum-requires c κs = search rules
 
 odd-requires : tie.Need-odd-requires
@@ -17,11 +17,11 @@ uniform-requires c κs = search rules
 none-requires : tie.Need-none-requires
 none-requires c κs = search rules
 
-returns : tie.Need-returns
-returns c = c.uniform.ensures ∙ ap uniform c.before.before.before.sum.ensures ∙ sym (bare-odd c.before.before.before.before.args.p c.before.before.before.before.args.q (sym c.before.before.odd.ensures ∙ c.before.if1.true))
+returns : tie.Need-returns-then-odd
+returns c = c.uniform.ensures ∙ ap uniform c.sum-s.ensures ∙ sym (bare-odd c.args.p c.args.q (sym c.odd.ensures ∙ c.if-odd.true))
 
-returns-2 : tie.Need-returns-2
-returns-2 c = c.none.ensures ∙ ap none c.before.before.before.sum.ensures ∙ sym (bare-not c.before.before.before.before.args.p c.before.before.before.before.args.q (sym c.before.before.odd.ensures ∙ c.before.if1.false))
+returns-2 : tie.Need-returns-else-odd
+returns-2 c = c.none.ensures ∙ ap none c.sum-s.ensures ∙ sym (bare-not c.args.p c.args.q (sym c.odd.ensures ∙ c.if-odd.false))
 
 pub bare_spec : {M : Type 1} → statement M
 bare_spec =

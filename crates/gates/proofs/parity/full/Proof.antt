@@ -14,5 +14,5 @@ both-requires-3 c κs = search rules
 returns : tie.Need-returns
 returns c = cc
 
-pub full-spec : {M : Type 1} → statement M
-full-spec = tie.close (tie.spec both-requires both-requires-2 both-requires-3 returns)
+pub full_spec : {M : Type 1} → statement M
+full_spec = tie.close (tie.spec both-requires both-requires-2 both-requires-3 returns)

@@ -8,14 +8,14 @@ use borrow.Author.Rules.{rules}
 use Rattle.gates.proofs.parity.is_odd.Statement.{statement}
 use Rattle.gates.proofs.parity.is_odd.Tie as tie
 
-cast-is-even : tie.Need-overflow-cast-is-even
+cast-is-even : tie.Need-overflow_cast-a
 cast-is-even c = rw (to_z-of_z c.ranges.a) (sfits_widen tt c.ranges.a)
 
-is-even-requires : tie.Need-is-even-requires
+is-even-requires : tie.Need-is_even-requires
 is-even-requires c κs = search rules
 
 returns : tie.Need-returns
-returns c = ap not (c.is_even.ensures ∙ ap even (ap (λ z. to_z w64 (of_z w64 z)) (to_z-of_z c.before.ranges.a) ∙ to_z-of_z (sfits_widen tt c.before.ranges.a)))
+returns c = ap not (c.is_even.ensures ∙ ap even (ap (λ z. to_z w64 (of_z w64 z)) (to_z-of_z c.ranges.a) ∙ to_z-of_z (sfits_widen tt c.ranges.a)))
 
-pub is-odd-spec : {M : Type 1} → statement M
-is-odd-spec = tie.close (tie.spec cast-is-even is-even-requires returns)
+pub is_odd_spec : {M : Type 1} → statement M
+is_odd_spec = tie.close (tie.spec cast-is-even is-even-requires returns)

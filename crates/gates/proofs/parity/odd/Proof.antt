@@ -14,5 +14,5 @@ either-requires-3 c κs = search rules
 returns : tie.Need-returns
 returns c = cc
 
-pub odd-spec : {M : Type 1} → statement M
-odd-spec = tie.close (tie.spec either-requires either-requires-2 either-requires-3 returns)
+pub odd_spec : {M : Type 1} → statement M
+odd_spec = tie.close (tie.spec either-requires either-requires-2 either-requires-3 returns)

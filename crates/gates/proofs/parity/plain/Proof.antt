@@ -5,7 +5,7 @@ use borrow.Author.Rules.{rules}
 use Rattle.gates.proofs.parity.plain.Statement.{statement}
 use Rattle.gates.proofs.parity.plain.Tie as tie
 
-sum-requires : tie.Need-sum-requires
+sum-requires : tie.Need-sum-s-requires
 sum-requires c κs = search rules
 
 odd-requires : tie.Need-odd-requires
@@ -17,13 +17,13 @@ rest-requires c κs = search rules
 uniform-requires : tie.Need-uniform-requires
 uniform-requires c κs = search rules
 
-returns : tie.Need-returns
-returns c = c.rest.ensures ∙ ap rest c.before.before.before.sum.ensures ∙ sym (plain-odd c.before.before.before.before.args.p c.before.before.before.before.args.q (sym c.before.before.odd.ensures ∙ c.before.if1.true))
+returns : tie.Need-returns-then-odd
+returns c = c.rest.ensures ∙ ap rest c.sum-s.ensures ∙ sym (plain-odd c.args.p c.args.q (sym c.odd.ensures ∙ c.if-odd.true))
 
-returns-2 : tie.Need-returns-2
-returns-2 c = c.uniform.ensures ∙ ap uniform c.before.before.before.sum.ensures ∙ sym (plain-not c.before.before.before.before.args.p c.before.before.before.before.args.q (sym c.before.before.odd.ensures ∙ c.before.if1.false))
+returns-2 : tie.Need-returns-else-odd
+returns-2 c = c.uniform.ensures ∙ ap uniform c.sum-s.ensures ∙ sym (plain-not c.args.p c.args.q (sym c.odd.ensures ∙ c.if-odd.false))
 
-pub plain-spec : {M : Type 1} → statement M
-plain-spec =
+pub plain_spec : {M : Type 1} → statement M
+plain_spec =
     tie.close
     (tie.spec sum-requires odd-requires rest-requires uniform-requires returns returns-2)

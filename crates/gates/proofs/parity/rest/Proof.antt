@@ -14,5 +14,5 @@ both-requires c κs = search rules
 returns : tie.Need-returns
 returns c = cc
 
-pub rest-spec : {M : Type 1} → statement M
-rest-spec = tie.close (tie.spec either-requires either-requires-2 both-requires returns)
+pub rest_spec : {M : Type 1} → statement M
+rest_spec = tie.close (tie.spec either-requires either-requires-2 both-requires returns)

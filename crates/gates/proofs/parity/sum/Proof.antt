@@ -17,7 +17,7 @@ either-requires-4 c κs = search rules
 returns : tie.Need-returns
 returns c = cc
 
-pub sum-spec : {M : Type 1} → statement M
-sum-spec =
+pub sum_spec : {M : Type 1} → statement M
+sum_spec =
     tie.close
     (tie.spec either-requires either-requires-2 either-requires-3 either-requires-4 returns)

@@ -14,5 +14,5 @@ either-requires c κs = search rules
 returns : tie.Need-returns
 returns c = cc
 
-pub uniform-spec : {M : Type 1} → statement M
-uniform-spec = tie.close (tie.spec full-requires none-requires either-requires returns)
+pub uniform_spec : {M : Type 1} → statement M
+uniform_spec = tie.close (tie.spec full-requires none-requires either-requires returns)

@@ -14,7 +14,7 @@ bare-requires : tie.Need-bare-requires
 bare-requires c κs = search rules
 
 returns : tie.Need-returns
-returns c = c.bare.ensures ∙ ap₂ bare c.before.before.parities.ensures c.before.parities2.ensures
+returns c = c.bare.ensures ∙ ap₂ bare c.parities.ensures c.parities-2.ensures
 
-pub is-bare-spec : {M : Type 1} → statement M
-is-bare-spec = tie.close (tie.spec parities-requires parities-requires-2 bare-requires returns)
+pub is_bare_spec : {M : Type 1} → statement M
+is_bare_spec = tie.close (tie.spec parities-requires parities-requires-2 bare-requires returns)

@@ -6,8 +6,8 @@ use borrow.Author.Rules.{rules}
 use Rattle.gates.proofs.spell.is_plain.Statement.{statement}
 use Rattle.gates.proofs.spell.is_plain.Tie as tie
 
-returns : tie.Need-returns
-returns c = plain-none c.before.before.args.s (omega arith)
+returns : tie.Need-returns-then-s-eq0
+returns c = plain-none c.args.s (omega arith)
 
 parities-requires : tie.Need-parities-requires
 parities-requires c κs = search rules
@@ -18,9 +18,9 @@ parities-requires-2 c κs = search rules
 plain-requires : tie.Need-plain-requires
 plain-requires c κs = search rules
 
-returns-2 : tie.Need-returns-2
-returns-2 c = c.plain.ensures ∙ ap₂ plain c.before.before.parities.ensures c.before.parities2.ensures ∙ plain-some c.before.before.before.before.before.args.s (omega arith)
+returns-2 : tie.Need-returns
+returns-2 c = c.plain.ensures ∙ ap₂ plain c.parities.ensures c.parities-2.ensures ∙ plain-some c.args.s (omega arith)
 
-pub is-plain-spec : {M : Type 1} → statement M
-is-plain-spec =
+pub is_plain_spec : {M : Type 1} → statement M
+is_plain_spec =
     tie.close (tie.spec returns parities-requires parities-requires-2 plain-requires returns-2)

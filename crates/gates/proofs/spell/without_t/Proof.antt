@@ -6,14 +6,14 @@ use borrow.Author.Rules.{rules}
 use Rattle.gates.proofs.spell.without_t.Statement.{statement}
 use Rattle.gates.proofs.spell.without_t.Tie as tie
 
-over-omega-requires : tie.Need-over-omega-requires
-over-omega-requires c κs = let s = c.before.args.s in omega (arith, (narrow s.k s.u s.t c.before.requires.1 c.before.requires.0).1.d)
-
-add-t4 : tie.Need-overflow-add-t4
-add-t4 c = search rules
+over-omega-requires : tie.Need-over_omega-t-requires
+over-omega-requires c κs = let s = c.args.s in omega (arith, (narrow s.k s.u-1 s.t c.requires.1 c.requires.0).1.d)
 
 returns : tie.Need-returns
-returns c = state refl refl c.before.over-omega.ensures refl
+returns c = state refl refl c.over_omega-t.ensures refl
 
-pub without-t-spec : {M : Type 1} → statement M
-without-t-spec = tie.close (tie.spec over-omega-requires add-t4 returns)
+overflow_add-result : tie.Need-overflow_add-result
+overflow_add-result c = search rules
+
+pub without_t_spec : {M : Type 1} → statement M
+without_t_spec = tie.close (tie.spec over-omega-requires overflow_add-result returns)

@@ -16,106 +16,106 @@ use borrow.Author.Rules.{rules}
 use Rattle.gates.proofs.states.next.Statement.{statement}
 use Rattle.gates.proofs.states.next.Tie as tie
 
-parities-requires : tie.Need-parities-requires
+parities-requires : tie.Need-parities-pu-requires
 parities-requires c κs = search rules
 
-parities-requires-2 : tie.Need-parities-requires-2
+parities-requires-2 : tie.Need-parities-pt-requires
 parities-requires-2 c κs = search rules
 
-bare-requires : tie.Need-bare-requires
+bare-requires : tie.Need-bare-b-requires
 bare-requires c κs = search rules
 
-unturn-requires : tie.Need-unturn-requires
+unturn-requires : tie.Need-unturn-z-requires
 unturn-requires c κs = search rules
 
 -- the places, from the call of `unturn` back to the start
-abbrev self : tie.After-unturn → State
-self c = c.before.before.before.before.before.before.args.s
+abbrev self : tie.After-unturn-z → State
+self c = c.args.s
 
-bare-is : (c : tie.After-unturn) → c.before.bare.result ≡ is_bare (self c)
-bare-is c = c.before.bare.ensures ∙ ap₂ bare c.before.before.before.parities.ensures c.before.before.parities2.ensures
+bare-is : (c : tie.After-unturn-z) → c.bare-b.result ≡ is_bare (self c)
+bare-is c = c.bare-b.ensures ∙ ap₂ bare c.parities-pu.ensures c.parities-pt.ensures
 
-z-is : (c : tie.After-unturn) → c.unturn.result ≡ unturn (self c)
-z-is c = c.unturn.ensures ∙ ap (λ b. cond b (self c).t (back (back (self c).t))) (bare-is c)
+z-is : (c : tie.After-unturn-z) → c.unturn-z.result ≡ unturn (self c)
+z-is c = c.unturn-z.ensures ∙ ap (λ b. cond b (self c).t-1 (back (back (self c).t-1))) (bare-is c)
 
-narrow-z : (c : tie.After-unturn) → Narrow c.unturn.result
-narrow-z c = subst Narrow (sym (z-is c)) (narrow_unturn (is_bare (self c)) (self c).t c.before.before.before.before.before.before.requires.1)
+narrow-z : (c : tie.After-unturn-z) → Narrow c.unturn-z.result
+narrow-z c = subst Narrow (sym (z-is c)) (narrow_unturn (is_bare (self c)) (self c).t-1 c.requires.1)
 
-p-is : (c : tie.After-plus) → c.plus.result ≡ plus (self c.before)
-p-is c = c.plus.ensures ∙ ap (λ z. (self c.before).u +ω z) (z-is c.before)
+p-is : (c : tie.After-plus-p) → c.plus-p.result ≡ plus (self c.before)
+p-is c = c.plus-p.ensures ∙ ap (λ z. (self c.before).u-1 +ω z) (z-is c.before)
 
-q-is : (c : tie.After-less) → c.less.result ≡ less (self c.before.before)
-q-is c = c.less.ensures ∙ ap (λ z. (self c.before.before).u -ω z) (z-is c.before.before)
+q-is : (c : tie.After-less-q) → c.less-q.result ≡ less (self c.before.before)
+q-is c = c.less-q.ensures ∙ ap (λ z. (self c.before.before).u-1 -ω z) (z-is c.before.before)
 
 l-is : (c : tie.After-shift) → c.shift.result ≡ shift (self c.before.before.before)
 l-is c = c.shift.ensures ∙ ap (λ b. cond b 3 1) (bare-is c.before.before.before)
 
 none_is : (c : tie.After-none) → c.none.result ≡ none (parities (plus (self c.before.before.before.before.before.before)))
-none_is c = c.none.ensures ∙ ap none (c.before.parities3.ensures ∙ ap parities (p-is c.before.before.before.before.before))
+none_is c = c.none.ensures ∙ ap none (c.parities-pp.ensures ∙ ap parities (p-is c.before.before.before.before.before))
 
-plus-requires : tie.Need-plus-requires
-plus-requires c κs = (c.before.before.before.before.before.before.requires.0, narrow-z c)
+plus-requires : tie.Need-plus-p-requires
+plus-requires c κs = (c.requires.0, narrow-z c)
 
-less-requires : tie.Need-less-requires
-less-requires c κs = (c.before.before.before.before.before.before.before.requires.0, narrow-z c.before)
+less-requires : tie.Need-less-q-requires
+less-requires c κs = (c.requires.0, narrow-z c.before)
 
 shift-requires : tie.Need-shift-requires
 shift-requires c κs = search rules
 
-add-l : tie.Need-overflow-add-l
-add-l c = omega (arith, c.before.shift.ensures, shift_small c.before.before.before.before.before.bare.result, c.before.before.before.before.before.before.before.before.before.before.requires.3)
+add-l : tie.Need-overflow_add-l
+add-l c = omega (arith, c.shift.ensures, shift_small c.bare-b.result, c.requires.3)
 
-parities-requires-3 : tie.Need-parities-requires-3
+parities-requires-3 : tie.Need-parities-pp-requires
 parities-requires-3 c κs = search rules
 
 none-requires : tie.Need-none-requires
 none-requires c κs = search rules
 
-half-requires : tie.Need-half-requires
+half-requires : tie.Need-half-x-requires
 half-requires c κs = search rules
 
-half-requires-2 : tie.Need-half-requires-2
+half-requires-2 : tie.Need-half-requires
 half-requires-2 c κs = search rules
 
-over-omega-requires : tie.Need-over-omega-requires
+over-omega-requires : tie.Need-over_omega-y-requires
 over-omega-requires c κs =
     let s = c.before.before.before.before.before.before.before.before.before in
-    subst (λ v. nat_abs v.d < 2 ^ 30) (sym (c.half2.ensures ∙ ap halved c.before.before.before.before.before.before.before.less.ensures)) (less-halved (self s).u s.unturn.result s.before.before.before.before.before.before.requires.0 (narrow-z s))
+    subst (λ v. nat_abs v.d < 2 ^ 30) (sym (c.half.ensures ∙ ap halved c.less-q.ensures)) (less-halved (self s).u-1 c.unturn-z.result c.requires.0 (narrow-z s))
 
-sub-t20 : tie.Need-overflow-sub-t20
-sub-t20 c = c.before.before.before.before.before.before.before.before.before.before.before.before.before.before.before.before.before.requires.2
+sub-t20 : tie.Need-overflow_sub-result
+sub-t20 c = c.requires.2
 
-over-root2-requires : tie.Need-over-root2-requires
+over-root2-requires : tie.Need-over_root2-x-requires
 over-root2-requires c κs = search rules
 
-over-root2-requires-2 : tie.Need-over-root2-requires-2
+over-root2-requires-2 : tie.Need-over_root2-requires
 over-root2-requires-2 c κs = search rules
 
-over-omega-requires-2 : tie.Need-over-omega-requires-2
+over-omega-requires-2 : tie.Need-over_omega-y-requires-else-none
 over-omega-requires-2 c κs =
     let s = c.before.before.before.before.before.before.before.before.before in
-    subst (λ v. nat_abs v.d < 2 ^ 30) (sym (c.over-root22.ensures ∙ ap halves c.before.before.before.before.before.before.before.less.ensures)) (less-halves (self s).u s.unturn.result s.before.before.before.before.before.before.requires.0 (narrow-z s))
+    subst (λ v. nat_abs v.d < 2 ^ 30) (sym (c.over_root2.ensures ∙ ap halves c.less-q.ensures)) (less-halves (self s).u-1 c.unturn-z.result c.requires.0 (narrow-z s))
 
-returns : tie.Need-returns
+returns : tie.Need-returns-then-none
 returns c =
     let m = c.before.before.before.before.before in
     state refl
-    (c.before.before.before.half.ensures ∙ ap halved (p-is m.before.before.before.before.before))
-    (c.before.over-omega.ensures ∙ ap back (c.before.before.half2.ensures ∙ ap halved (q-is m.before.before.before.before)))
-    (ap (λ n. c.before.before.before.before.before.before.before.before.before.before.before.before.before.before.before.before.before.args.s.l + n) (l-is m.before.before.before))
-    ∙ sym (next-even (self m.before.before.before.before.before.before) (sym (none_is m) ∙ c.before.before.before.before.if1.true))
+    (c.half-x.ensures ∙ ap halved (p-is m.before.before.before.before.before))
+    (c.over_omega-y.ensures ∙ ap back (c.half.ensures ∙ ap halved (q-is m.before.before.before.before)))
+    (ap (λ n. c.args.s.l + n) (l-is m.before.before.before))
+    ∙ sym (next-even (self m.before.before.before.before.before.before) (sym (none_is m) ∙ c.if-none.true))
 
-returns-2 : tie.Need-returns-2
+returns-2 : tie.Need-returns-else-none
 returns-2 c =
     let m = c.before.before.before.before in
     state refl
-    (c.before.before.over-root2.ensures ∙ ap halves (p-is m.before.before.before.before.before))
-    (c.over-omega2.ensures ∙ ap back (c.before.over-root22.ensures ∙ ap halves (q-is m.before.before.before.before)))
-    (ap (λ n. c.before.before.before.before.before.before.before.before.before.before.before.before.before.before.before.before.args.s.l + n) (l-is m.before.before.before))
-    ∙ sym (next-not (self m.before.before.before.before.before.before) (sym (none_is m) ∙ c.before.before.before.if1.false))
+    (c.over_root2-x.ensures ∙ ap halves (p-is m.before.before.before.before.before))
+    (c.over_omega-y-else-none.ensures ∙ ap back (c.over_root2.ensures ∙ ap halves (q-is m.before.before.before.before)))
+    (ap (λ n. c.args.s.l + n) (l-is m.before.before.before))
+    ∙ sym (next-not (self m.before.before.before.before.before.before) (sym (none_is m) ∙ c.if-none.false))
 
-pub next-spec : {M : Type 1} → statement M
-next-spec =
+pub next_spec : {M : Type 1} → statement M
+next_spec =
     tie.close
     (tie.spec
     parities-requires

@@ -17,11 +17,11 @@ module _ (c : tie.After-abs) where
   abbrev n : ℕ
   n = c.abs.result
 
-  n_is : n ≡ nat_abs c.before.args.q
-  n_is = rw (to_z-of_z c.before.ranges.q) at c.abs.ensures
+  n_is : n ≡ nat_abs c.args.q
+  n_is = rw (to_z-of_z c.ranges.q) at c.abs.ensures
 
   n-small : n ≤ 2 ^ 38
-  n-small = omega (arith, n_is, c.before.requires)
+  n-small = omega (arith, n_is, c.requires)
 
   abbrev t : ℕ
   t = n * 22619537 / 15994428
@@ -41,24 +41,24 @@ module _ (c : tie.After-abs) where
   down : SFits w64 (pos 0 -ℤ pos t)
   down = size→fits (omega (arith, t-small, size-- (pos 0) (pos t)))
 
-mul-c : tie.Need-overflow-mul-c
+mul-c : tie.Need-overflow_mul-c
 mul-c c = omega (arith, n-small c)
 
-cast-c : tie.Need-overflow-cast-c
+cast-c : tie.Need-overflow_cast-c
 cast-c c = size→fits (omega (arith, t-small c))
 
-add-result : tie.Need-overflow-add-result
+add-result : tie.Need-overflow_add-result
 add-result c = rw (t-is c.before) (up c.before)
 
-sub-result : tie.Need-overflow-sub-result
+sub-result : tie.Need-overflow_sub-result
 sub-result c = rw (t-is c.before) (down c.before)
 
-returns : tie.Need-returns
+returns : tie.Need-returns-then-q-ge0
 returns c = let d = c.before in rw (t-is d, to_z-of_z (up d)) (omega (arith, n_is d, t-twice d, size-+ (pos (t d)) (pos 1)))
 
-returns-2 : tie.Need-returns-2
+returns-2 : tie.Need-returns-else-q-ge0
 returns-2 c = let d = c.before in rw (t-is d, to_z-of_z (down d)) (omega (arith, n_is d, t-twice d, size-- (pos 0) (pos (t d))))
 
-pub near-root-spec : {M : Type 1} → statement M
-near-root-spec =
+pub near_root_spec : {M : Type 1} → statement M
+near_root_spec =
     tie.close (tie.spec abs-requires mul-c cast-c add-result sub-result returns returns-2)

@@ -22,7 +22,7 @@ module _ (s : tie.Start) where
   e = s.args.e
 
   limits : EllipseLimits e
-  limits = ellipse-limits e s.pre.0
+  limits = ellipse-limits e s.requires.0
 
   x_fits : SFits w32 e.cx
   x_fits = size→fits (omega (arith, limits.cx-size))
@@ -40,35 +40,35 @@ module _ (s : tie.Start) where
   centre = num e.cx ⊠ s.args.u ⊞ num e.cy ⊠ s.args.v
 
   centre-size : Sized (2 ^ 22) (2 ^ 22) centre
-  centre-size = combined_size e.cx e.cy s.args.u s.args.v 10000 200 10000 200 (2 ^ 22) limits.cx-size s.pre.1.first limits.cy-size s.pre.1.second (omega arith)
+  centre-size = combined_size e.cx e.cy s.args.u s.args.v 10000 200 10000 200 (2 ^ 22) limits.cx-size s.requires.1.first limits.cy-size s.requires.1.second (omega arith)
 
-cast-combined : tie.Need-overflow-cast-combined
+cast-combined : tie.Need-overflow_cast-e
 cast-combined c = let s = c.before.before in rw (to_z-of_z (x_fits s)) (x-wide s)
 
-cast-combined-2 : tie.Need-overflow-cast-combined-2
+cast-combined-2 : tie.Need-overflow_cast-e-2
 cast-combined-2 c = let s = c.before.before.before.before in rw (to_z-of_z (y-fits s)) (y-wide s)
 
-combined-requires : tie.Need-combined-requires
+combined-requires : tie.Need-combined-c-requires
 combined-requires c κs =
     let s = c.before.before.before.before in
     simp (to_z-of_z (x_fits s), to_z-of_z (y-fits s), to_z-of_z (x-wide s), to_z-of_z (y-wide s))
-    (room (e s).cx (e s).cy s.args.u s.args.v 10000 200 10000 200 (limits s).cx-size s.requires.1.first (limits s).cy-size s.requires.1.second (omega arith))
+    (room (e s).cx (e s).cy c.args.u c.args.v 10000 200 10000 200 (limits s).cx-size c.requires.1.first (limits s).cy-size c.requires.1.second (omega arith))
 
-half-width-requires : tie.Need-half-width-requires
+half-width-requires : tie.Need-half_width-m-requires
 half-width-requires c κs = search rules
 
-cast-t6 : tie.Need-overflow-cast-t6
+cast-t6 : tie.Need-overflow_cast-result
 cast-t6 c = search rules
 
-module _ (c : tie.After-half-width) where
+module _ (c : tie.After-half_width-m) where
   abbrev s : tie.Start
   s = c.before.before.before.before.before.before
 
   abbrev z : RootTwo
-  z = c.before.combined.result
+  z = c.combined-c.result
 
   z-is : z ≡ centre s
-  z-is = simp (to_z-of_z (x_fits s), to_z-of_z (y-fits s), to_z-of_z (x-wide s), to_z-of_z (y-wide s)) at c.before.combined.ensures
+  z-is = simp (to_z-of_z (x_fits s), to_z-of_z (y-fits s), to_z-of_z (x-wide s), to_z-of_z (y-wide s)) at c.combined-c.ensures
 
   z-size : Sized (2 ^ 22) (2 ^ 22) z
   z-size = subst (Sized (2 ^ 22) (2 ^ 22)) (sym z-is) (centre-size s)
@@ -79,21 +79,21 @@ module _ (c : tie.After-half-width) where
   q-fits : SFits w64 z.q
   q-fits = size→fits (omega (arith, z-size.q))
 
-  m-is : to_z w64 c.half-width.result ≡ pos c.half-width.result
-  m-is = to_z_pos w64 (omega (arith, c.half-width.ensures.small))
+  m-is : to_z w64 c.half_width-m.result ≡ pos c.half_width-m.result
+  m-is = to_z_pos w64 (omega (arith, c.half_width-m.ensures.small))
 
-  sum : SFits w64 (z.p +ℤ pos c.half-width.result)
-  sum = size→fits (omega (arith, z-size.p, c.half-width.ensures.small, size-+ z.p (pos c.half-width.result)))
+  sum : SFits w64 (z.p +ℤ pos c.half_width-m.result)
+  sum = size→fits (omega (arith, z-size.p, c.half_width-m.ensures.small, size-+ z.p (pos c.half_width-m.result)))
 
-add-t7 : tie.Need-overflow-add-t7
+add-t7 : tie.Need-overflow_add-result
 add-t7 c = let d = c.before.before in simp (to_z-of_z (p-fits d), m-is d) (sum d)
 
 returns : tie.Need-returns
 returns c =
     let d = c.before.before.before in
-    let m = d.half-width.result in
+    let m = c.half_width-m.result in
     simp (to_z-of_z (p-fits d), to_z-of_z (q-fits d), m-is d, to_z-of_z (sum d))
-    (subst (Reaches (R.Ellipse (e (s d))) (s d).args.u (s d).args.v) (sym (shifted (z d) (pos m)) ∙ refl) (subst (λ t. Reaches (R.Ellipse (e (s d))) (s d).args.u (s d).args.v (t ⊞ num (pos m))) (sym (z-is d)) (ellipse-reaches (e (s d)) (s d).args.u (s d).args.v m (s d).requires.0 (s d).requires.1 d.half-width.ensures)))
+    (subst (Reaches (R.Ellipse (e (s d))) (s d).args.u (s d).args.v) (sym (shifted (z d) (pos m)) ∙ refl) (subst (λ t. Reaches (R.Ellipse (e (s d))) (s d).args.u (s d).args.v (t ⊞ num (pos m))) (sym (z-is d)) (ellipse-reaches (e (s d)) (s d).args.u (s d).args.v m (s d).requires.0 (s d).requires.1 c.half_width-m.ensures)))
   where
     shifted : (z : RootTwo) (m : ℤ) → record { p = z.p +ℤ m; q = z.q } ≡ z ⊞ num m
     shifted z m = sym (simp (sum-parts, num_parts) (ext refl (zero z.q)))
@@ -101,8 +101,8 @@ returns c =
         zero : (q : ℤ) → q +ℤ pos 0 ≡ q
         zero q = +ℤ_comm q (pos 0) ∙ +ℤ_idl q
 
-pub over-ellipse-spec : {M : Type 1} → statement M
-over-ellipse-spec =
+pub over_ellipse_spec : {M : Type 1} → statement M
+over_ellipse_spec =
     tie.close
     (tie.spec
     cast-combined

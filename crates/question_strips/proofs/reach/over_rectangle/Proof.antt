@@ -15,13 +15,13 @@ use Rattle.question_strips.specs.Reach.{Reaches, far_end, far-size, rectangle-re
 use Rattle.question_strips.proofs.reach.over_rectangle.Statement.{statement}
 use Rattle.question_strips.proofs.reach.over_rectangle.Tie as tie
 
-far-end-requires : tie.Need-far-end-requires
+far-end-requires : tie.Need-far_end-requires
 far-end-requires c κs = search rules
 
-far-end-requires-2 : tie.Need-far-end-requires-2
+far-end-requires-2 : tie.Need-far_end-requires-2
 far-end-requires-2 c κs = search rules
 
-module _ (c : tie.After-far-end2) where
+module _ (c : tie.After-far_end-2) where
   abbrev s : tie.Start
   s = c.before.before.before.before.before.before
 
@@ -34,19 +34,19 @@ module _ (c : tie.After-far-end2) where
   abbrev y : ℤ
   y = far_end (nonneg s.args.v) r.yl r.yh
 
-  x-is : to_z w64 (of_z w64 c.before.before.before.far-end.result) ≡ x
+  x-is : to_z w64 (of_z w64 c.far_end.result) ≡ x
   x-is =
-      let f = c.before.before.before.far-end in
+      let f = c.far_end in
       let l : SFits w32 r.xl = search rules in
       let h : SFits w32 r.xh = search rules in
-      back w64 f.type-inv ∙ (simp (to_z-of_z l, to_z-of_z h) at f.ensures)
+      back w64 f.type_inv ∙ (simp (to_z-of_z l, to_z-of_z h) at f.ensures)
 
-  y-is : to_z w64 (of_z w64 c.far-end2.result) ≡ y
+  y-is : to_z w64 (of_z w64 c.far_end-2.result) ≡ y
   y-is =
-      let f = c.far-end2 in
+      let f = c.far_end-2 in
       let l : SFits w32 r.yl = search rules in
       let h : SFits w32 r.yh = search rules in
-      back w64 f.type-inv ∙ (simp (to_z-of_z l, to_z-of_z h) at f.ensures)
+      back w64 f.type_inv ∙ (simp (to_z-of_z l, to_z-of_z h) at f.ensures)
 
 combined-requires : tie.Need-combined-requires
 combined-requires c κs =
@@ -61,6 +61,6 @@ returns c =
     let e = rw (x-is d, y-is d) at c.combined.ensures in
     subst (Reaches (R.Rectangle (r d)) (s d).args.u (s d).args.v) (sym e) (rectangle-reaches (r d) (s d).args.u (s d).args.v (s d).requires.0 (s d).requires.1)
 
-pub over-rectangle-spec : {M : Type 1} → statement M
-over-rectangle-spec =
+pub over_rectangle_spec : {M : Type 1} → statement M
+over_rectangle_spec =
     tie.close (tie.spec far-end-requires far-end-requires-2 combined-requires returns)

@@ -30,17 +30,17 @@ module _ (c : tie.Start) where
   fits : SFits w64 (c.args.b +ℤ m)
   fits = size→fits (omega (arith, size))
 
-cast-result : tie.Need-overflow-cast-result
+cast-result : tie.Need-overflow_cast-result
 cast-result c = search rules
 
-mul-result : tie.Need-overflow-mul-result
+mul-result : tie.Need-overflow_mul-result
 mul-result c = rw (n_is c) (m-fits c)
 
-add-result : tie.Need-overflow-add-result
+add-result : tie.Need-overflow_add-result
 add-result c = rw (n_is c, to_z-of_z (m-fits c), to_z-of_z c.ranges.b) (fits c)
 
 returns : tie.Need-returns
 returns c = rw (n_is c, to_z-of_z (m-fits c), to_z-of_z c.ranges.b, to_z-of_z (fits c)) (refl, size c)
 
-pub beyond-spec : {M : Type 1} → statement M
-beyond-spec = tie.close (tie.spec cast-result mul-result add-result returns)
+pub beyond_spec : {M : Type 1} → statement M
+beyond_spec = tie.close (tie.spec cast-result mul-result add-result returns)

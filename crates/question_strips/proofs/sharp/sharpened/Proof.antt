@@ -14,7 +14,7 @@ rounded-requires-2 c κs = search rules
 abs-requires-2 : tie.Need-abs-requires-2
 abs-requires-2 c κs = search rules
 
-greater-requires : tie.Need-greater-requires
+greater-requires : tie.Need-greater-m-requires
 greater-requires c κs = search rules
 
 steps-requires : tie.Need-steps-requires
@@ -25,14 +25,14 @@ unit-requires c κs = search rules
 
 sharp-requires : tie.Need-sharp-requires
 sharp-requires c κs =
-    let s = c.before.before.before.before.before.before.before in
-    (s.requires.0, s.requires.1, c.unit.ensures, s.requires.2, s.requires.3)
+    let s = c in
+    (c.requires.0, c.requires.1, c.unit.ensures, c.requires.2, c.requires.3)
 
 returns : tie.Need-returns
 returns c = search rules
 
-pub sharpened-spec : {M : Type 1} → statement M
-sharpened-spec =
+pub sharpened_spec : {M : Type 1} → statement M
+sharpened_spec =
     tie.close
     (tie.spec
     rounded-requires

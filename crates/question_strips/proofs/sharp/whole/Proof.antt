@@ -21,17 +21,17 @@ module _ (c : tie.Start) where
   v-is : to_z w16 (of_z w16 (to_z w64 (of_z w64 c.args.v))) ≡ c.args.v
   v-is = rw (to_z-of_z c.ranges.v) (to_z-of_z v-fits)
 
-cast-bound : tie.Need-overflow-cast-bound
+cast-bound : tie.Need-overflow_cast-u
 cast-bound c = rw (to_z-of_z c.ranges.u) (u-fits c)
 
-cast-bound-2 : tie.Need-overflow-cast-bound-2
+cast-bound-2 : tie.Need-overflow_cast-v
 cast-bound-2 c = rw (to_z-of_z c.ranges.v) (v-fits c)
 
 bound-requires : tie.Need-bound-requires
 bound-requires c κs = (c.requires.0, rw (u-is c) (omega (arith, c.requires.1)), rw (v-is c) (omega (arith, c.requires.2)))
 
 returns : tie.Need-returns
-returns c = let s = c.before in rw (back w64 c.bound.type-inv) (rw (u-is s, v-is s) at c.bound.ensures)
+returns c = let s = c.before in rw (back w64 c.bound.type_inv) (rw (u-is s, v-is s) at c.bound.ensures)
 
-pub whole-spec : {M : Type 1} → statement M
-whole-spec = tie.close (tie.spec cast-bound cast-bound-2 bound-requires returns)
+pub whole_spec : {M : Type 1} → statement M
+whole_spec = tie.close (tie.spec cast-bound cast-bound-2 bound-requires returns)

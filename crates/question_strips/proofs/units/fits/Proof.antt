@@ -3,17 +3,17 @@ use borrow.Author.Rules.{rules}
 use Rattle.question_strips.proofs.units.fits.Statement.{statement}
 use Rattle.question_strips.proofs.units.fits.Tie as tie
 
-has-short-ends-requires : tie.Need-has-short-ends-requires
+has-short-ends-requires : tie.Need-has_short_ends-requires
 has-short-ends-requires c κs = search rules
 
-has-short-ends-requires-2 : tie.Need-has-short-ends-requires-2
+has-short-ends-requires-2 : tie.Need-has_short_ends-requires-then-has_short_ends
 has-short-ends-requires-2 c κs = search rules
 
-returns : tie.Need-returns
-returns c = λ t. (c.before.before.has-short-ends.ensures c.before.if1.true, c.has-short-ends2.ensures t)
+returns : tie.Need-returns-then-has_short_ends
+returns c = λ t. (c.has_short_ends.ensures c.if-has_short_ends.true, c.has_short_ends-then-has_short_ends.ensures t)
 
-returns-2 : tie.Need-returns-2
+returns-2 : tie.Need-returns-else-has_short_ends
 returns-2 c = λ t. absurd (false≢true t)
 
-pub fits-spec : {M : Type 1} → statement M
-fits-spec = tie.close (tie.spec has-short-ends-requires has-short-ends-requires-2 returns returns-2)
+pub fits_spec : {M : Type 1} → statement M
+fits_spec = tie.close (tie.spec has-short-ends-requires has-short-ends-requires-2 returns returns-2)

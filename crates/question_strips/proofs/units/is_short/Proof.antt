@@ -12,22 +12,22 @@ use Rattle.question_strips.proofs.units.is_short.Tie as tie
 abs-requires : tie.Need-abs-requires
 abs-requires c κs = search rules
 
-abs-requires-2 : tie.Need-abs-requires-2
+abs-requires-2 : tie.Need-abs-requires-then-abs-le-LARGEST
 abs-requires-2 c κs = search rules
 
-returns : tie.Need-returns
+returns : tie.Need-returns-then-abs-le-LARGEST
 returns c =
-    let a = c.before.before.before in
-    let s = a.before.before in
-    let p : SFits w64 s.args.x.p = search rules in
-    let q : SFits w64 s.args.x.q = search rules in
-    let e = rw (to_z-of_z p) at a.abs.ensures in
-    let f = rw (to_z-of_z q) at c.abs2.ensures in
-    let h = c.before.before.if1.true in
-    λ t. record { p = omega arith; q = omega (arith, leb-true c.abs2.result end_size t) }
+    let a = c in
+    let s = a in
+    let p : SFits w64 c.args.x.p = search rules in
+    let q : SFits w64 c.args.x.q = search rules in
+    let e = rw (to_z-of_z p) at c.abs.ensures in
+    let f = rw (to_z-of_z q) at c.abs-then-abs-le-LARGEST.ensures in
+    let h = c.if-abs-le-LARGEST.true in
+    λ t. record { p = omega arith; q = omega (arith, leb-true c.abs-then-abs-le-LARGEST.result end_size t) }
 
-returns-2 : tie.Need-returns-2
+returns-2 : tie.Need-returns-else-abs-le-LARGEST
 returns-2 c = λ t. absurd (false≢true t)
 
-pub is-short-spec : {M : Type 1} → statement M
-is-short-spec = tie.close (tie.spec abs-requires abs-requires-2 returns returns-2)
+pub is_short_spec : {M : Type 1} → statement M
+is_short_spec = tie.close (tie.spec abs-requires abs-requires-2 returns returns-2)

@@ -9,20 +9,20 @@ use Rattle.question_strips.proofs.units.scaled.Statement.{statement}
 use Rattle.question_strips.proofs.units.scaled.Tie as tie
 
 times-requires : tie.Need-times-requires
-times-requires c κs = let p = c.before.before.requires in (p.0, p.2)
+times-requires c κs = let p = c.requires in (p.0, p.2)
 
 conjugate-requires : tie.Need-conjugate-requires
-conjugate-requires c κs = sized_more (2 ^ 17) (2 ^ 60) _ (omega arith) c.before.before.before.requires.2.size
+conjugate-requires c κs = sized_more (2 ^ 17) (2 ^ 60) _ (omega arith) c.requires.2.size
 
 times-requires-2 : tie.Need-times-requires-2
 times-requires-2 c κs =
-    let s = c.before.before.before.before in
-    (s.requires.1, subst Unit (sym c.conjugate.ensures) (unit-conj s.args.u s.requires.2))
+    let s = c in
+    (c.requires.1, subst Unit (sym c.conjugate.ensures) (unit-conj c.args.u c.requires.2))
 
 returns : tie.Need-returns
 returns c =
-    let s = c.before.before.before.before.before in
-    ap₂ (λ (x y : Band). record { first = x; second = y }) c.before.before.times.ensures (c.times2.ensures ∙ ap (times_of s.args.s.second) c.before.conjugate.ensures)
+    let s = c in
+    ap₂ (λ (x y : Band). record { first = x; second = y }) c.times.ensures (c.times-2.ensures ∙ ap (times_of c.args.s.second) c.conjugate.ensures)
 
-pub scaled-spec : {M : Type 1} → statement M
-scaled-spec = tie.close (tie.spec times-requires conjugate-requires times-requires-2 returns)
+pub scaled_spec : {M : Type 1} → statement M
+scaled_spec = tie.close (tie.spec times-requires conjugate-requires times-requires-2 returns)

@@ -37,7 +37,7 @@ module _ (c : tie.After-spaces_from) where
   within : (at ≤ c.word_end-end.result) × (c.word_end-end.result ≤ length line)
   within =
       let e = c.word_end-end.ensures in
-      let b = run_end-within (is_byte 32 false) line at (le_of_lt some.if-line-at.left) in
+      let b = run_end-within (is_byte 32 false) line at (le_of_lt some.if-line-at.false) in
       (omega arith, omega arith)
 
 returns : tie.Need-returns-then-line-at
@@ -81,7 +81,7 @@ unfolding last_of last_written
 returns-3 c =
     let b = c in
     let s = b.before in
-    let e = lt-ltb (at s) (length (line s)) (some s).if-line-at.false in
+    let e = lt-ltb (at s.before.before.before.before.before) (length (line s)) (some s).if-line-at.false in
     let f = le-ltb (next_from (line s) (at s)) (length (line s)) (rw (next-is s) at b.if-spaces_from-line.false) in
     let u = c.unhex.ensures in
     (rw (e, f, ← s.word_end-end.ensures) u.0, rw (e, f, ← s.word_end-end.ensures) u.1)
