@@ -12,7 +12,7 @@ use Rattle.gate_theory.specs.declared.State.{State}
 use Rattle.gate_theory.specs.State.{Narrow}
 
 pub read : (z : ℤ) → nat_abs z < 2 ^ 28 → to_z w32 (of_z w32 z) ≡ z
-read z h = to_z-of_z (size→fits (omega arith))
+read z h = to_z-of_z {w = w32} (size→fits (omega arith))
 
 pub narrow_back : (v : Point) → Narrow v → Narrow (back v)
 narrow_back v h = record { a = omega (arith, size-neg v.d, h.d); b = h.a; c = h.b; d = h.c }

@@ -103,7 +103,7 @@ put-short-requires c κs =
     let b = z.put_last-f.ensures.1 in
     let s = z.put_last-f.ensures.0.same in
     let r = (start h.before.before.before).requires.0 in
-    let x : Fits w32 (counted h).before.exponent-e.result = search rules in
+    let x : Fits w32 (counted h.before.before.before).before.exponent-e.result = search rules in
     let y = x.fits in
     (omega arith, omega arith)
 
@@ -134,7 +134,7 @@ returns c =
     let m = (counted b).pulse_count-m.ensures in
     let last = q.put_short.ensures in
     let all = append-more (xs b) (start b).args.at (front p.before.before) (count_text (counted b).pulse_count-m.result 10) p.put_short-g.new.out q.put_short.new.out p.put_short-g.result q.put_short.result (stands p.before.before) last.0 in
-    let s = short p in
+    let s = short p.before.before in
     let l = last.1 in
     (subst (λ (t : List ℕ). Appended (xs b) (start b).args.at t q.put_short.new.out q.put_short.result) (line (start b).args.k (v b) (counted b).before.exponent-e.result (counted b).pulse_count-m.result e m) all, omega arith)
 

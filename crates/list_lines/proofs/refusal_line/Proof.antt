@@ -101,12 +101,12 @@ returns c =
     let q = k.before.before.before.before in
     let s = start (begun q.before.before) in
     let place = s.args.place in
-    let all = append-more (xs (begun q.before.before)) 0 (refused ++ decimal (shown q.before.before) ++ at_place) (count_text place 10) q.put_bytes-c.new.out k.put_count.new.out q.put_bytes-c.result k.put_count.result (three q) k.put_count.ensures.0 in
+    let all = append-more (xs (begun q.before.before)) 0 (refused ++ decimal (shown q.before.before) ++ at_place) (count_text place 10) q.put_bytes-c.new.out k.put_count.new.out q.put_bytes-c.result k.put_count.result (three q.before.before) k.put_count.ensures.0 in
     let f = all.same in
     let g = k.put_count.ensures.1 in
-    let r = reach q in
-    let h = s.pre in (
-      subst (λ (l : List ℕ). Appended (xs (begun q)) 0 l k.put_count.new.out k.put_count.result) (spelt (shown q) (number s.args.f) place (numbered q).before.number.ensures) all,
+    let r = reach q.before.before in
+    let h = s.requires in (
+      subst (λ (l : List ℕ). Appended (xs (begun q.before.before)) 0 l k.put_count.new.out k.put_count.result) (spelt (shown q.before.before) (number s.args.f) place (numbered q.before.before).before.number.ensures) all,
       (omega arith, sym (length-take-le k.put_count.result k.put_count.new.out (omega arith))),
     )
 

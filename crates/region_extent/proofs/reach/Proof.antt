@@ -58,7 +58,7 @@ returns-2 c =
     let k = c in
     let s = k in
     let a : accepted (R.Rectangle c.in-Rectangle.r) ≡ true = ap accepted (sym c.in-Rectangle.is) ∙ taken k.before.before in
-    rw a (back w64 c.over_rectangle.type_inv ∙ (simp (to_z-of_z c.ranges.u, to_z-of_z c.ranges.v) at c.over_rectangle.ensures))
+    rw (c.in-Rectangle.is, a, reach_of) (back w64 c.over_rectangle.type_inv ∙ (simp (to_z-of_z c.ranges.u, to_z-of_z c.ranges.v) at c.over_rectangle.ensures))
 
 returns-3 : tie.Need-returns-in-Ellipse
 unfolding reach_of
@@ -66,7 +66,7 @@ returns-3 c =
     let k = c in
     let s = k in
     let a : accepted (R.Ellipse c.in-Ellipse.e) ≡ true = ap accepted (sym c.in-Ellipse.is) ∙ taken k.before.before in
-    rw a (back w64 c.over_ellipse.type_inv ∙ (simp (to_z-of_z c.ranges.u, to_z-of_z c.ranges.v) at c.over_ellipse.ensures))
+    rw (c.in-Ellipse.is, a, reach_of) (back w64 c.over_ellipse.type_inv ∙ (simp (to_z-of_z c.ranges.u, to_z-of_z c.ranges.v) at c.over_ellipse.ensures))
 
 returns-4 : tie.Need-returns-in-Slice
 unfolding reach_of
@@ -75,7 +75,7 @@ returns-4 c =
     let k = d in
     let s = k in
     let a : accepted (R.Slice c.in-Slice.s) ≡ true = ap accepted (sym c.in-Slice.is) ∙ taken k.before.before.before in
-    rw a (back w64 c.over_ellipse-in-Slice.type_inv ∙ (simp (c.disk.ensures, to_z-of_z c.ranges.u, to_z-of_z c.ranges.v) at c.over_ellipse-in-Slice.ensures))
+    rw (c.in-Slice.is, a, reach_of) (back w64 c.over_ellipse-in-Slice.type_inv ∙ (simp (c.disk.ensures, to_z-of_z c.ranges.u, to_z-of_z c.ranges.v) at c.over_ellipse-in-Slice.ensures))
 
 pub reach_spec : {M : Type 1} → statement M
 reach_spec =

@@ -67,9 +67,9 @@ returns-3 c =
     let e = a.before.before in
     let s = e.before in
     low-exponent s.args.k s.args.v s.requires e.if-k-lt2.false (⊎_elim
-    (λ w. inr (sym (even-b (record { before = record { before = record { before = a; if2 = w.0 }; struct-told2 = w.1 }; agree2 = w.2 })) ∙ w.3.left))
-    (λ w. inl (sym (even-a a) ∙ w.left))
-    c.if-agree.branch)
+    (λ w. inr (sym (even-b (record { before = record { before = record { before = a; if-agree = w.if-agree }; struct_told-then-agree-1 = w.struct_told-then-agree-1 }; agree-then-agree = w.agree-then-agree })) ∙ w.if-agree-2.false))
+    (λ w. inl (sym (even-a a) ∙ w.if-agree.false))
+    c.if-agree.branch-raw)
 
 pub exponent_spec : {M : Type 1} → statement M
 exponent_spec =

@@ -84,22 +84,22 @@ loop-again c =
     let at = p.point_at-v.ensures in
     ⊎_elim
     (λ w.
-    let e : c.if-not-is_odd.even ≡ t.loop-i.even + 1 = w.4 in
+    let e : c.if-not-is_odd.even ≡ t.loop-i.even + 1 = w.even-is in
     let n = t.loop-i.i + 1 - (t.loop-i.even + 1) in (
       omega arith,
       omega arith,
-      ap₂ (λ (l : List ℕ) (n : ℕ). plus_at l k (t.loop-i.i + 1 - n)) w.3 e
+      ap₂ (λ (l : List ℕ) (n : ℕ). plus_at l k (t.loop-i.i + 1 - n)) w.counts-is e
           ∙ ⊎_elim
-          (λ x. ap (λ (l : List ℕ). plus_at l k n) x.1 ∙ even-next k s.args.points.now t.loop-i.i t.loop-i.even t.loop-i.counts i.1 i.2 m v o at w.1.result w.1.ensures)
-          (λ x. ap (λ (l : List ℕ). plus_at l k n) x.1 ∙ past_next k s.args.points.now t.loop-i.i t.loop-i.even t.loop-i.counts i.1 i.2 m v o at w.1.result w.1.ensures x.0.left)
-          w.2.came,
+          (λ x. ap (λ (l : List ℕ). plus_at l k n) x.counts-is ∙ even-next k s.args.points.now t.loop-i.i t.loop-i.even t.loop-i.counts i.1 i.2 m v o at w.exponent-e.result w.exponent-e.ensures)
+          (λ x. ap (λ (l : List ℕ). plus_at l k n) x.counts-is ∙ past_next k s.args.points.now t.loop-i.i t.loop-i.even t.loop-i.counts i.1 i.2 m v o at w.exponent-e.result w.exponent-e.ensures x.if-e-lt21.false)
+          w.if-e-lt21.branch-raw,
     ))
     (λ w.
-    let e : c.if-not-is_odd.even ≡ t.loop-i.even = w.2 in (
+    let e : c.if-not-is_odd.even ≡ t.loop-i.even = w.even-is in (
       omega arith,
       omega arith,
-      ap₂ (λ (l : List ℕ) (n : ℕ). plus_at l k (t.loop-i.i + 1 - n)) w.1 e
-          ∙ odd-next k s.args.points.now t.loop-i.i t.loop-i.even t.loop-i.counts i.1 i.2 m v o at (sym c.is_odd.ensures ∙ not-false _ w.0.left),
+      ap₂ (λ (l : List ℕ) (n : ℕ). plus_at l k (t.loop-i.i + 1 - n)) w.counts-is e
+          ∙ odd-next k s.args.points.now t.loop-i.i t.loop-i.even t.loop-i.counts i.1 i.2 m v o at (sym c.is_odd.ensures ∙ w.if-not-is_odd.false),
     ))
     c.if-not-is_odd.branch-raw
 

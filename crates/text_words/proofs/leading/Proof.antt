@@ -125,10 +125,10 @@ loop-again : tie.Need-loop-at-preserved invariant-loop decreases-loop
 loop-again c =
     let k = c in
     let l = here k in
-    let small : l.loop-at.count < length l.loop-at.values = let e = l.loop-at.inv.1 in let f = k.if-most-count.false in omega arith in
+    let small : l.loop-at.count < length l.loop-at.values = let e = l.loop-at.invariant.1 in let f = k.if-most-count.false in omega arith in
     let more = leading-more (room l) (line l) l.loop-at.at (so_far l) k.loop-at-test.true _ (value k) (next k) (left k) (told k) in
     let put : take (l.loop-at.count + 1) (set l.loop-at.values l.loop-at.count (value k)) ≡ so_far l ++ (value k ∷ []) = rw (suc_is l.loop-at.count) (take-suc-set l.loop-at.values l.loop-at.count (value k) small) in
-    (omega arith, length-set l.loop-at.values l.loop-at.count _ ∙ l.loop-at.inv.1, rw (to_z-of_z (fits k), put) (sym more ∙ l.loop-at.inv.2))
+    (omega arith, length-set l.loop-at.values l.loop-at.count _ ∙ l.loop-at.invariant.1, rw (to_z-of_z (fits k), put) (sym more ∙ l.loop-at.invariant.2))
 
 counted-requires-2 : tie.Need-counted-requires-2 invariant-loop decreases-loop
 counted-requires-2 c κs = search rules

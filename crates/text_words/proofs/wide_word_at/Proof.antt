@@ -12,7 +12,7 @@ use Rattle.text_words.proofs.wide_word_at.Tie as tie
 
 module _ (c : tie.After-ends_word) where
   abbrev start : tie.Start
-  start = c.before.before.before
+  start = c.before.before.before.before
 
   abbrev line : List ℕ
   line = start.args.line.now

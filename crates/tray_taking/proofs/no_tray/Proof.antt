@@ -3,11 +3,11 @@ use borrow.Author.Rules.{rules}
 use Rattle.tray_taking.proofs.no_tray.Statement.{statement}
 use Rattle.tray_taking.proofs.no_tray.Tie as tie
 
-blank-requires : tie.Need-blank-requires
+blank-requires : tie.Need-blank-t-requires
 blank-requires c κs = search rules
 
 returns : tie.Need-returns
-returns c = rw c.blank.ensures refl
+returns c = rw c.blank-t.ensures refl
 
-pub no-tray-spec : {M : Type 1} → statement M
-no-tray-spec = tie.close (tie.spec blank-requires returns)
+pub no_tray_spec : {M : Type 1} → statement M
+no_tray_spec = tie.close (tie.spec blank-requires returns)

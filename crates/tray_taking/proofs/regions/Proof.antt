@@ -15,118 +15,118 @@ use Rattle.region.specs.declared.Region.{Region}
 use Rattle.tray_taking.proofs.regions.Statement.{statement}
 use Rattle.tray_taking.proofs.regions.Tie as tie
 
-abbrev invariant-loop : tie.invariant-loop
+abbrev invariant-loop : tie.invariant-loop-at
 invariant-loop a targets₀ count₀ at₀ targets count at =
     (at ≤ length a) × (count ≤ 8) × ((rs : List Region) × (length rs ≡ count) × (targets ≡ padded 8 rs) × (regions_of 8 a ≡ before rs (regions_of (8 - count) (drop at a))))
 
-abbrev decreases-loop : tie.decreases-loop
+abbrev decreases-loop : tie.decreases-loop-at
 decreases-loop a targets₀ count₀ at₀ targets count at = length a - at
 
-abbrev bytes : tie.At-loop invariant-loop decreases-loop → List ℕ
+abbrev bytes : tie.At-loop-at invariant-loop decreases-loop → List ℕ
 bytes l = l.before.before.before.args.a.now
 
 -- what the record at a turn of the loop gave
-module _ (a : tie.After-one invariant-loop decreases-loop) where
-  abbrev loop-of : tie.At-loop invariant-loop decreases-loop
+module _ (a : tie.After-one-f invariant-loop decreases-loop) where
+  abbrev loop-of : tie.At-loop-at invariant-loop decreases-loop
   loop-of = a.before.before.before.before
 
   abbrev at : ℕ
-  at = loop-of.loop.at
+  at = loop-of.loop-at.at
 
   all : take (length (bytes loop-of) - at) (drop at (bytes loop-of)) ≡ drop at (bytes loop-of)
   all = take_all (length (bytes loop-of) - at) (drop at (bytes loop-of)) (le_of_eq (length-drop at (bytes loop-of)))
 
-  found : (f : Found) → a.one.result ≡ f → one_of (drop at (bytes loop-of)) ≡ f
-  found f e = ap one_of (sym all) ∙ sym a.one.ensures ∙ e
+  found : (f : Found) → a.one-f.result ≡ f → one_of (drop at (bytes loop-of)) ≡ f
+  found f e = ap one_of (sym all) ∙ sym a.one-f.ensures ∙ e
 
   -- there is room for one more
-  room : loop-of.loop.count < 8
-  room = let h = loop-of.loop.inv.1 in let e = a.before.before.if1.left in omega arith
+  room : loop-of.loop-at.count < 8
+  room = let h = loop-of.loop-at.invariant.1 in let e = a.if-count-eq8.false in omega arith
 
-  coming : (f : Found) → a.one.result ≡ f → regions_of (8 - loop-of.loop.count) (drop at (bytes loop-of)) ≡ onward (λ n. regions_of (7 - loop-of.loop.count) (drop n (drop at (bytes loop-of)))) f
+  coming : (f : Found) → a.one-f.result ≡ f → regions_of (8 - loop-of.loop-at.count) (drop at (bytes loop-of)) ≡ onward (λ n. regions_of (7 - loop-of.loop-at.count) (drop n (drop at (bytes loop-of)))) f
   coming f e =
       let r = room in
-      let one : 8 - loop-of.loop.count ≡ suc (7 - loop-of.loop.count) = omega arith in
-      let t = a.before.before.before.loop-test.taken in
+      let one : 8 - loop-of.loop-at.count ≡ suc (7 - loop-of.loop-at.count) = omega arith in
+      let t = a.loop-at-test.taken in
       ap (λ (m : ℕ). regions_of m (drop at (bytes loop-of))) one
-      ∙ to_come_more (7 - loop-of.loop.count) (drop at (bytes loop-of)) f (omega (arith, length-drop at (bytes loop-of))) (found f e)
+      ∙ to_come_more (7 - loop-of.loop-at.count) (drop at (bytes loop-of)) f (omega (arith, length-drop at (bytes loop-of))) (found f e)
 
-module _ (c : tie.After-known-told invariant-loop decreases-loop) where
-  abbrev made : tie.After-one invariant-loop decreases-loop
-  made = c.before.before.before
+module _ (c : tie.In-Region invariant-loop decreases-loop) where
+  abbrev made : tie.After-one-f invariant-loop decreases-loop
+  made = c.before
 
-  within : (1 ≤ c.before.f.given.0.1.0) × (c.before.f.given.0.1.0 ≤ length (drop (at made) (bytes (loop-of made))))
-  within = found-takes c.before.f.given.0.0 c.before.f.given.0.1.0 (drop (at made) (bytes (loop-of made))) (found made _ c.before.f.given.1)
+  within : (1 ≤ c.in-Region.n) × (c.in-Region.n ≤ length (drop (at made) (bytes (loop-of made))))
+  within = found-takes c.in-Region.g c.in-Region.n (drop (at made) (bytes (loop-of made))) (found made _ c.in-Region.is)
 
-blank-requires : tie.Need-blank-requires invariant-loop decreases-loop
+blank-requires : tie.Need-blank-targets-requires invariant-loop decreases-loop
 blank-requires c κs = search rules
 
-loop-holds : tie.Need-loop-init invariant-loop decreases-loop
-loop-holds c = (omega arith, omega arith, ([], refl, rw c.blank.ensures refl, refl))
+loop-holds : tie.Need-loop-at-init invariant-loop decreases-loop
+loop-holds c = (omega arith, omega arith, ([], refl, rw c.blank-targets.ensures refl, refl))
 
 unread-requires : tie.Need-unread-requires invariant-loop decreases-loop
 unread-requires c κs = search rules
 
-returns : tie.Need-returns invariant-loop decreases-loop
+returns : tie.Need-returns-then-count-eq8 invariant-loop decreases-loop
 returns c =
     let l = c.before.before.before in
-    let i = l.loop.invariant.2 in
-    let t = c.before.before.loop-test.true in
-    let e = c.before.if1.true in
-    let d = to_come_full (8 - l.loop.count) (drop l.loop.at (bytes l)) (omega arith) (omega (arith, length-drop l.loop.at (bytes l))) in
+    let i = c.loop-at.invariant.2 in
+    let t = c.loop-at-test.true in
+    let e = c.if-count-eq8.true in
+    let d = to_come_full (8 - c.loop-at.count) (drop c.loop-at.at (bytes l)) (omega arith) (omega (arith, length-drop c.loop-at.at (bytes l))) in
     rw c.unread.ensures (sym (ap padded_of (i.3 ∙ ap (before i.0) d ∙ before-refused i.0 16)))
 
-sub-one : tie.Need-overflow-sub-one invariant-loop decreases-loop
+sub-one : tie.Need-slice_bounds-one-count invariant-loop decreases-loop
 sub-one c = search rules
 
-part-one-start : tie.Need-slice-bounds-one-start invariant-loop decreases-loop
+part-one-start : tie.Need-slice_bounds-one-start invariant-loop decreases-loop
 part-one-start c = search rules
 
-part-one-end : tie.Need-slice-bounds-one-end invariant-loop decreases-loop
+part-one-end : tie.Need-slice_bounds-one-end invariant-loop decreases-loop
 part-one-end c = search rules
 
-one-requires : tie.Need-one-requires invariant-loop decreases-loop
+one-requires : tie.Need-one-f-requires invariant-loop decreases-loop
 one-requires c κs = search rules
 
-enum-known-f : tie.Need-enum-known-f invariant-loop decreases-loop
+enum-known-f : tie.Need-enum_known-f invariant-loop decreases-loop
 enum-known-f c = search rules
 
-mul-targets : tie.Need-overflow-mul-targets invariant-loop decreases-loop
+mul-targets : tie.Need-offset_bounds-targets-count invariant-loop decreases-loop
 mul-targets c = omega arith
 
-array-set-from-targets : tie.Need-array-set-from-targets invariant-loop decreases-loop
+array-set-from-targets : tie.Need-bounds-targets-count invariant-loop decreases-loop
 array-set-from-targets c = omega arith
 
-add-count : tie.Need-overflow-add-count invariant-loop decreases-loop
+add-count : tie.Need-overflow_add-count invariant-loop decreases-loop
 add-count c = omega arith
 
-add_at : tie.Need-overflow-add-at invariant-loop decreases-loop
+add_at : tie.Need-overflow_add-at invariant-loop decreases-loop
 add_at c =
     let w = within c in
     let l = loop-of (made c) in
-    let h = l.loop.inv.0 in
-    let g = length-drop l.loop.at (bytes l) in
+    let h = l.loop-at.invariant.0 in
+    let g = length-drop l.loop-at.at (bytes l) in
     record { fits = omega arith }
 
-loop-less : tie.Need-loop-smaller invariant-loop decreases-loop
-loop-less c = let w = within c in let l = loop-of (made c) in let g = length-drop l.loop.at (bytes l) in omega arith
+loop-less : tie.Need-loop-at-smaller invariant-loop decreases-loop
+loop-less c = let w = within c in let l = loop-of (made c) in let g = length-drop l.loop-at.at (bytes l) in omega arith
 
-loop-again : tie.Need-loop-preserved invariant-loop decreases-loop
+loop-again : tie.Need-loop-at-preserved invariant-loop decreases-loop
 loop-again c =
     let a = made c in
     let l = loop-of a in
-    let i = l.loop.inv.2 in
+    let i = l.loop-at.invariant.2 in
     let w = within c in
     let k = room a in
-    let g = c.before.f.given.0.0 in
-    let n = c.before.f.given.0.1.0 in
-    let h = l.loop.inv.0 in
-    let u = length-drop l.loop.at (bytes l) in
-    let next = coming a _ c.before.f.given.1 in
-    let less : 7 - l.loop.count ≡ 8 - (l.loop.count + 1) = omega arith in
-    let tail : regions_of (7 - l.loop.count) (drop n (drop l.loop.at (bytes l))) ≡ regions_of (8 - (l.loop.count + 1)) (drop (l.loop.at + n) (bytes l)) =
-    ap₂ regions_of less (drop-drop n l.loop.at (bytes l)) in
-    let stored : set l.loop.targets l.loop.count (record { region = g }) ≡ padded 8 (i.0 ++ (g ∷ [])) =
+    let g = c.in-Region.g in
+    let n = c.in-Region.n in
+    let h = l.loop-at.inv.0 in
+    let u = length-drop l.loop-at.at (bytes l) in
+    let next = coming a _ c.in-Region.is in
+    let less : 7 - l.loop-at.count ≡ 8 - (l.loop-at.count + 1) = omega arith in
+    let tail : regions_of (7 - l.loop-at.count) (drop n (drop l.loop-at.at (bytes l))) ≡ regions_of (8 - (l.loop-at.count + 1)) (drop (l.loop-at.at + n) (bytes l)) =
+    ap₂ regions_of less (drop-drop n l.loop-at.at (bytes l)) in
+    let stored : set l.loop-at.targets l.loop-at.count (record { region = g }) ≡ padded 8 (i.0 ++ (g ∷ [])) =
     ap₂ (λ (ts : List Target) (x : ℕ). set ts x (record { region = g })) i.2 (sym i.1) ∙ padded-more 8 i.0 g (let z = i.1 in omega arith) in (
       omega arith,
       omega arith,
@@ -138,31 +138,31 @@ loop-again c =
       ),
     )
 
-enum-known-f-2 : tie.Need-enum-known-f-2 invariant-loop decreases-loop
+enum-known-f-2 : tie.Need-enum_known-f-in-Refused-1 invariant-loop decreases-loop
 enum-known-f-2 c = search rules
 
-unread-requires-2 : tie.Need-unread-requires-2 invariant-loop decreases-loop
+unread-requires-2 : tie.Need-unread-requires-in-Refused invariant-loop decreases-loop
 unread-requires-2 c κs = search rules
 
-returns-2 : tie.Need-returns-2 invariant-loop decreases-loop
+returns-2 : tie.Need-returns-in-Refused invariant-loop decreases-loop
 returns-2 c =
-    let a = c.before.before.before.before in
+    let a = c.before.before in
     let l = loop-of a in
-    let i = l.loop.inv.2 in
-    rw c.unread2.ensures (sym (ap padded_of (i.3 ∙ ap (before i.0) (coming a _ c.before.before.f2.given.1) ∙ before-refused i.0 _)))
+    let i = l.loop-at.invariant.2 in
+    rw c.unread-in-Refused.ensures (sym (ap padded_of (i.3 ∙ ap (before i.0) (coming a _ c.in-Refused.is) ∙ before-refused i.0 _)))
 
-returns-3 : tie.Need-returns-3 invariant-loop decreases-loop
+returns-3 : tie.Need-returns invariant-loop decreases-loop
 returns-3 c =
     let l = c.before in
-    let i = l.loop.invariant.2 in
-    let h = l.loop.invariant.0 in
-    let t = c.loop-test.false in
-    let d = to_come_none (8 - l.loop.count) (drop l.loop.at (bytes l)) (omega (arith, length-drop l.loop.at (bytes l))) in
+    let i = c.loop-at.invariant.2 in
+    let h = c.loop-at.invariant.0 in
+    let t = c.loop-at-test.false in
+    let d = to_come_none (8 - c.loop-at.count) (drop c.loop-at.at (bytes l)) (omega (arith, length-drop c.loop-at.at (bytes l))) in
     let e = i.3 ∙ ap (before i.0) d ∙ before-all i.0 [] ∙ ap all_read (append-nil i.0) in
     ap₂ accept (sym i.1) i.2 ∙ sym (ap padded_of e)
 
-pub regions-spec : {M : Type 1} → statement M
-regions-spec =
+pub regions_spec : {M : Type 1} → statement M
+regions_spec =
     tie.close
     (tie.spec
     invariant-loop

@@ -8,41 +8,41 @@ use Rattle.tray_taking.proofs.take.Tie as tie
 refused-requires : tie.Need-refused-requires
 refused-requires c κs = search rules
 
-returns : tie.Need-returns
+returns : tie.Need-returns-then-k-gt20
 returns c =
-    rw c.refused.ensures (sym (takes-scale _ c.before.if1.true))
+    rw c.refused.ensures (sym (takes-scale _ c.if-k-gt20.true))
 
-refused-requires-2 : tie.Need-refused-requires-2
+refused-requires-2 : tie.Need-refused-requires-then-byte-gt1
 refused-requires-2 c κs = search rules
 
-returns-2 : tie.Need-returns-2
+returns-2 : tie.Need-returns-then-byte-gt1
 returns-2 c =
-    rw c.refused2.ensures (sym (takes-byte _ c.before.before.if1.false c.before.if2.true))
+    rw c.refused-then-byte-gt1.ensures (sym (takes-byte _ c.if-k-gt20.false c.if-byte-gt1.true))
 
-refused-requires-3 : tie.Need-refused-requires-3
+refused-requires-3 : tie.Need-refused-requires-then-a-eq0
 refused-requires-3 c κs = search rules
 
-returns-3 : tie.Need-returns-3
+returns-3 : tie.Need-returns-then-a-eq0
 returns-3 c =
-    rw c.refused3.ensures (sym (takes_none _ c.before.before.before.if1.false c.before.before.if2.false c.before.if3.true))
+    rw c.refused-then-a-eq0.ensures (sym (takes_none _ c.if-k-gt20.false c.if-byte-gt1.false c.if-a-eq0.true))
 
-cast-with-second : tie.Need-overflow-cast-with-second
+cast-with-second : tie.Need-overflow_cast-k
 cast-with-second c = search rules
 
 regions-requires : tie.Need-regions-requires
 regions-requires c κs = search rules
 
-with-second-requires : tie.Need-with-second-requires
+with-second-requires : tie.Need-with_second-requires
 with-second-requires c κs = search rules
 
-returns-4 : tie.Need-returns-4
+returns-4 : tie.Need-returns
 returns-4 c =
-    let r = c.before in
-    let e = r.before in
-    let s = e.before.before.before.before.before in
-    c.with_Second.ensures
-    ∙ ap (λ x. second_of s.args.k (eqb s.args.byte 1) x s.args.b.now) r.regions.ensures
-    ∙ sym (takes-second (record { scale = s.args.k; byte = s.args.byte; a = s.args.a.now; b = s.args.b.now }) e.before.before.if1.false e.before.if2.false e.if3.false)
+    let r = c in
+    let e = r in
+    let s = e in
+    c.with_second.ensures
+    ∙ ap (λ x. second_of c.args.k (eqb c.args.byte 1) x c.args.b.now) c.regions.ensures
+    ∙ sym (takes-second (record { scale = c.args.k; byte = c.args.byte; a = c.args.a.now; b = c.args.b.now }) c.if-k-gt20.false c.if-byte-gt1.false c.if-a-eq0.false)
 
 pub take_spec : {M : Type 1} → statement M
 take_spec =

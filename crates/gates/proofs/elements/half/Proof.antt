@@ -37,7 +37,7 @@ returns c =
     let ha : SFits w32 v.a = search rules in
     let hb : SFits w32 v.b = search rules in
     let hc : SFits w32 v.c = search rules in
-    let hd : SFits w32 v.d = d-fits sa in
+    let hd : SFits w32 v.d = d-fits sa.before.before.before.before in
     ext
     (back w32 c.half_sum.type_inv ∙ c.half_sum.ensures ∙ ap half (plain (to_z-of_z ha)))
     (back w32 c.half_sum-2.type_inv ∙ c.half_sum-2.ensures ∙ ap half (plain (to_z-of_z hb)))

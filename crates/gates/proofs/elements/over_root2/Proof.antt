@@ -34,7 +34,7 @@ returns c =
     let ha : SFits w32 v.a = search rules in
     let hb : SFits w32 v.b = search rules in
     let hc : SFits w32 v.c = search rules in
-    let hd : SFits w32 v.d = d-fits sa in
+    let hd : SFits w32 v.d = d-fits sa.before.before.before.before.before.before in
     ext
     (back w32 c.half_difference.type_inv ∙ c.half_difference.ensures ∙ ap half (ap₂ ◌-ℤ◌ (to_z-of_z hb) (to_z-of_z hd)))
     (back w32 c.half_sum.type_inv ∙ c.half_sum.ensures ∙ ap half (ap₂ ◌+ℤ◌ (to_z-of_z hc) (to_z-of_z ha)))

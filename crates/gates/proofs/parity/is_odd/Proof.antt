@@ -15,7 +15,7 @@ is-even-requires : tie.Need-is_even-requires
 is-even-requires c κs = search rules
 
 returns : tie.Need-returns
-returns c = ap not (c.is_even.ensures ∙ ap even (ap (λ z. to_z w64 (of_z w64 z)) (to_z-of_z c.ranges.a) ∙ to_z-of_z (sfits_widen tt c.ranges.a)))
+returns c = ap not (c.is_even.ensures ∙ ap even (ap (λ z. to_z w64 (of_z w64 z)) (to_z-of_z c.ranges.a) ∙ to_z-of_z {w = w64} (sfits_widen tt c.ranges.a)))
 
 pub is_odd_spec : {M : Type 1} → statement M
 is_odd_spec = tie.close (tie.spec cast-is-even is-even-requires returns)

@@ -7,7 +7,7 @@ use Rattle.gates.proofs.spell.without_t.Statement.{statement}
 use Rattle.gates.proofs.spell.without_t.Tie as tie
 
 over-omega-requires : tie.Need-over_omega-t-requires
-over-omega-requires c κs = let s = c.args.s in omega (arith, (narrow s.k s.u-1 s.t c.requires.1 c.requires.0).1.d)
+over-omega-requires c κs = let s = c.args.s in omega (arith, (narrow s.k s.u s.t c.requires.1 c.requires.0).1.d)
 
 returns : tie.Need-returns
 returns c = state refl refl c.over_omega-t.ensures refl

@@ -36,16 +36,16 @@ bare-is : (c : tie.After-unturn-z) → c.bare-b.result ≡ is_bare (self c)
 bare-is c = c.bare-b.ensures ∙ ap₂ bare c.parities-pu.ensures c.parities-pt.ensures
 
 z-is : (c : tie.After-unturn-z) → c.unturn-z.result ≡ unturn (self c)
-z-is c = c.unturn-z.ensures ∙ ap (λ b. cond b (self c).t-1 (back (back (self c).t-1))) (bare-is c)
+z-is c = c.unturn-z.ensures ∙ ap (λ b. cond b (self c).t (back (back (self c).t))) (bare-is c)
 
 narrow-z : (c : tie.After-unturn-z) → Narrow c.unturn-z.result
 narrow-z c = subst Narrow (sym (z-is c)) (narrow_unturn (is_bare (self c)) (self c).t-1 c.requires.1)
 
 p-is : (c : tie.After-plus-p) → c.plus-p.result ≡ plus (self c.before)
-p-is c = c.plus-p.ensures ∙ ap (λ z. (self c.before).u-1 +ω z) (z-is c.before)
+p-is c = c.plus-p.ensures ∙ ap (λ z. (self c.before).u +ω z) (z-is c.before)
 
 q-is : (c : tie.After-less-q) → c.less-q.result ≡ less (self c.before.before)
-q-is c = c.less-q.ensures ∙ ap (λ z. (self c.before.before).u-1 -ω z) (z-is c.before.before)
+q-is c = c.less-q.ensures ∙ ap (λ z. (self c.before.before).u -ω z) (z-is c.before.before)
 
 l-is : (c : tie.After-shift) → c.shift.result ≡ shift (self c.before.before.before)
 l-is c = c.shift.ensures ∙ ap (λ b. cond b 3 1) (bare-is c.before.before.before)
@@ -80,7 +80,7 @@ half-requires-2 c κs = search rules
 over-omega-requires : tie.Need-over_omega-y-requires
 over-omega-requires c κs =
     let s = c.before.before.before.before.before.before.before.before.before in
-    subst (λ v. nat_abs v.d < 2 ^ 30) (sym (c.half.ensures ∙ ap halved c.less-q.ensures)) (less-halved (self s).u-1 c.unturn-z.result c.requires.0 (narrow-z s))
+    subst (λ v. nat_abs v.d < 2 ^ 30) (sym (c.half.ensures ∙ ap halved c.less-q.ensures)) (less-halved (self s).u c.unturn-z.result c.requires.0 (narrow-z s))
 
 sub-t20 : tie.Need-overflow_sub-result
 sub-t20 c = c.requires.2
@@ -94,7 +94,7 @@ over-root2-requires-2 c κs = search rules
 over-omega-requires-2 : tie.Need-over_omega-y-requires-else-none
 over-omega-requires-2 c κs =
     let s = c.before.before.before.before.before.before.before.before.before in
-    subst (λ v. nat_abs v.d < 2 ^ 30) (sym (c.over_root2.ensures ∙ ap halves c.less-q.ensures)) (less-halves (self s).u-1 c.unturn-z.result c.requires.0 (narrow-z s))
+    subst (λ v. nat_abs v.d < 2 ^ 30) (sym (c.over_root2.ensures ∙ ap halves c.less-q.ensures)) (less-halves (self s).u c.unturn-z.result c.requires.0 (narrow-z s))
 
 returns : tie.Need-returns-then-none
 returns c =

@@ -41,7 +41,7 @@ loop-less c = search rules
 loop-again : tie.Need-loop-e-preserved invariant-loop decreases-loop
 loop-again c =
     let l = c.loop-e in
-    let z = c.z-1.given in
+    let z = c.before.in-Whole.z.given in
     ap (reduced (l.e - 1) z.0.0) c.over_root2-y.ensures ∙ reduced-whole l.e l.x l.y z.0.0 (omega arith) (sym c.divide_root2.ensures ∙ z.1) ∙ l.invariant
 
 returns-2 : tie.Need-returns invariant-loop decreases-loop

@@ -83,7 +83,7 @@ combined-requires c κs =
     let b = c in
     let i = s (p b.before.before.before) in
     rw (back w64 c.beyond-t.type_inv, c.conjugate.ensures)
-    (room c.beyond-t.result (pos 0) _ i.args.e (2 ^ 32) (2 ^ 17) 0 (2 ^ 17) c.beyond-t.ensures.1 (conj_size (2 ^ 17) i.args.e i.pre.2.size) (omega arith) i.pre.2.size (omega arith))
+    (room c.beyond-t.result (pos 0) _ i.args.e (2 ^ 32) (2 ^ 17) 0 (2 ^ 17) c.beyond-t.ensures.1 (conj_size (2 ^ 17) i.args.e i.requires.2.size) (omega arith) i.requires.2.size (omega arith))
 
 lesser-requires : tie.Need-lesser-requires
 lesser-requires c κs = search rules
@@ -97,13 +97,13 @@ returns-3 c =
     let k = w.before in
     let q = p k.before.before.before.before in
     let i = s q in
-    let x = (r k).before.rounded-x.result in
+    let x = (r k.before.before.before.before).before.rounded-x.result in
     let y = (r k).rounded-y.result in
     let o = rw (x-is (r k), y-is (r k)) at c.whole.ensures.over in
     let t = rw (back w64 c.whole.type_inv) at c.beyond-t.ensures.0 in
     let e = rw (back w64 c.beyond-t.type_inv, c.conjugate.ensures) at c.combined.ensures in
     sharp_reaches i.args.region i.args.n i.args.u i.args.v i.args.e q.before.product-f.result q.product-g.result i.args.d c.lesser.result x y c.whole.result c.beyond-t.result
-    i.pre.4 i.pre.2.even q.before.product-f.ensures q.product-g.ensures (first k) (second k) o t i.pre.3
+    i.requires.4 i.requires.2.even q.before.product-f.ensures q.product-g.ensures (first k) (second k) o t i.requires.3
     (subst (λ (z : RootTwo). Either i.args.d z c.lesser.result) e c.lesser.ensures)
 
 pub sharp_spec : {M : Type 1} → statement M

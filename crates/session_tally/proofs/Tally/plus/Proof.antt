@@ -17,10 +17,10 @@ decreases-loop more counts₀ e₀ counts e = 21 - e
 
 -- an array has its length
 long : (s : tie.Start invariant-loop decreases-loop) → length s.args.self.counts ≡ 21
-long s = sym (length-map s.args.self.counts _) ∙ s.well_formed.0.1.1.0.1.0.1
+long s = s.well_formed.0.1.1.0.1.0.1
 
 loop-holds : tie.Need-loop-e-init invariant-loop decreases-loop
-loop-holds c = (omega arith, added_none c.args.more c.args.self.counts-1)
+loop-holds c = (omega arith, added_none c.args.more c.args.self.counts)
 
 mul-n : tie.Need-offset_bounds-counts-e invariant-loop decreases-loop
 mul-n c = search rules
@@ -53,10 +53,10 @@ loop-again : tie.Need-loop-e-preserved invariant-loop decreases-loop
 loop-again c =
     let t = c in
     let s = t.before.before in
-    (omega arith, added_next s.args.more s.args.self.counts-1 t.loop-e.counts-1 t.loop-e.e _ c.plus.result t.loop-e.invariant.1 c.plus.ensures (search rules) (let l = long s in omega arith))
+    (omega arith, added_next s.args.more s.args.self.counts t.loop-e.counts t.loop-e.e _ c.plus.result t.loop-e.invariant.1 c.plus.ensures (search rules) (let l = long s.before.before.before in omega arith))
 
 returns : tie.Need-returns invariant-loop decreases-loop
-returns c = let t = c in let s = t in added-all s.args.more s.args.self.counts-1 t.loop-e.counts-1 t.loop-e.e t.loop-e.invariant.1 (search rules)
+returns c = let t = c in let s = t in added-all s.args.more s.args.self.counts t.loop-e.counts t.loop-e.e t.loop-e.invariant.1 (search rules)
 
 pub plus_spec : {M : Type 1} → statement M
 plus_spec =

@@ -69,9 +69,9 @@ unfolding bytes_of bytes_written
 returns-2 c =
     let b = c in
     let s = b.before in
-    let e = lt-ltb (at s.before.before.before.before.before) (length (line s)) b.if-line-at.false in
+    let e = lt-ltb (at s.before.before.before.before.before) (length (line s.before.before.before.before.before)) b.if-line-at.false in
     let d = c.dashed-hex.ensures in
-    (rw (e, ← s.word_end-end.ensures) d.0, next-is s, rw (e, ← s.word_end-end.ensures) d.1)
+    (rw (e, ← s.word_end-end.ensures) d.0, next-is s.before.before.before.before.before, rw (e, ← s.word_end-end.ensures) d.1)
 
 pub bytes_at_spec : {M : Type 1} → statement M
 bytes_at_spec =
