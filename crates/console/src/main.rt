@@ -5,7 +5,8 @@ ghost use Rattle.std.specs.Prelude.{◌≡◌, ◌≤◌, length};
 ghost use Rattle.text_input_lines.specs.Fed.{Fits, Fed};
 
 use console_commands::Desk;
-use libc::STDIN_FILENO;
+use std::io::Read;
+use std::time::Clock;
 use text_input_lines::{Gathered, Said};
 
 // What is kept from one read to the next, and whether to go on.
@@ -23,8 +24,10 @@ struct Told {
     going: bool,
 }
 
-fn main() {
+fn main(rt: HostRuntime) {
     if program_usage::told(
+        &rt,
+        &mut rt.stderr(),
         b"usage: console < LINES\nAn answer for each line: a call of the library by name, its numbers and its bytes.\n",
     ) {
         return;
@@ -32,7 +35,7 @@ fn main() {
     let mut line = line_buffer();
     let mut chunk = io::large_buffer();
     let mut out = console_commands::room();
-    answer_input(&mut line, &mut chunk, &mut out);
+    answer_input(&rt, &mut line, &mut chunk, &mut out);
 }
 
 // The longest line that is answered.
@@ -43,7 +46,13 @@ fn line_buffer() -> [u8; 131072]
 }
 
 // Read after read, up to more of them than any machine makes.
-fn answer_input(line: &mut [u8], chunk: &mut [u8], out: &mut [u8]) {
+fn answer_input<R: Input + Print + Eprint + Clock>(
+    rt: &R,
+    line: &mut [u8],
+    chunk: &mut [u8],
+    out: &mut [u8],
+) {
+    let mut from = rt.reader();
     let mut t = Talk {
         desk: console_commands::start(),
         gathered: text_input_lines::empty(),
@@ -54,22 +63,29 @@ fn answer_input(line: &mut [u8], chunk: &mut [u8], out: &mut [u8]) {
         if !t.going {
             return;
         }
-        t = turn(t, line, chunk, out);
+        t = turn(t, &mut from, rt, line, chunk, out);
         reads -= 1;
     }
 }
 
 // One read, and the answers to the lines that it completes. A failed read is no end: what is gathered of a line is then not answered.
-fn turn(t: Talk, line: &mut [u8], chunk: &mut [u8], out: &mut [u8]) -> Talk {
-    let got = system_streams::read_some(STDIN_FILENO, b"standard input", chunk);
+fn turn<F: Read, R: Print + Eprint + Clock>(
+    t: Talk,
+    from: &mut F,
+    rt: &R,
+    line: &mut [u8],
+    chunk: &mut [u8],
+    out: &mut [u8],
+) -> Talk {
+    let got = system_streams::read_some(from, rt, b"standard input", chunk);
     let n = got.at;
     if 0 < n {
-        return answer_all(t, line, &chunk[..n], out);
+        return answer_all(rt, t, line, &chunk[..n], out);
     }
     if got.failed {
         return stopped(t);
     }
-    answer_last(t, line, out)
+    answer_last(rt, t, line, out)
 }
 
 fn stopped(t: Talk) -> Talk {
@@ -83,10 +99,10 @@ fn stopped(t: Talk) -> Talk {
 }
 
 // Where the input ends: the last line needs no line feed.
-fn answer_last(t: Talk, line: &[u8], out: &mut [u8]) -> Talk {
+fn answer_last<R: Print + Eprint + Clock>(rt: &R, t: Talk, line: &[u8], out: &mut [u8]) -> Talk {
     let g = t.gathered;
     let said = text_input_lines::last(g, line.len());
-    let a = answer(t.desk, said, line, out);
+    let a = answer(rt, t.desk, said, line, out);
     let desk = a.desk;
     Talk {
         desk,
@@ -96,7 +112,13 @@ fn answer_last(t: Talk, line: &[u8], out: &mut [u8]) -> Talk {
 }
 
 // Byte after byte; an answer that is not taken ends it.
-fn answer_all(t: Talk, line: &mut [u8], chunk: &[u8], out: &mut [u8]) -> Talk
+fn answer_all<R: Print + Eprint + Clock>(
+    rt: &R,
+    t: Talk,
+    line: &mut [u8],
+    chunk: &[u8],
+    out: &mut [u8],
+) -> Talk
     ensures { Fed t.gathered chunk.now result.gathered result.going line.old line.new }
 {
     let mut desk = t.desk;
@@ -108,7 +130,7 @@ fn answer_all(t: Talk, line: &mut [u8], chunk: &[u8], out: &mut [u8]) -> Talk
         let said = s.said;
         i += 1;
         if text_input_lines::is_said(said) {
-            let a = answer(desk, said, line, out);
+            let a = answer(rt, desk, said, line, out);
             desk = a.desk;
             if !a.going {
                 return Talk {
@@ -126,14 +148,20 @@ fn answer_all(t: Talk, line: &mut [u8], chunk: &[u8], out: &mut [u8]) -> Talk
     }
 }
 
-fn answer(d: Desk, said: Said, line: &[u8], out: &mut [u8]) -> Told
+fn answer<R: Print + Eprint + Clock>(
+    rt: &R,
+    d: Desk,
+    said: Said,
+    line: &[u8],
+    out: &mut [u8],
+) -> Told
     requires { Fits (length line.now) said }
 {
     match said {
-        Said::Line(n) => answer_line(d, &line[..n], out),
+        Said::Line(n) => answer_line(rt, d, &line[..n], out),
         Said::TooLong => Told {
             desk: d,
-            going: system_streams::print(b"too long\n"),
+            going: system_streams::print(rt, b"too long\n"),
         },
         Said::Nothing => Told {
             desk: d,
@@ -142,12 +170,12 @@ fn answer(d: Desk, said: Said, line: &[u8], out: &mut [u8]) -> Told
     }
 }
 
-fn answer_line(d: Desk, line: &[u8], out: &mut [u8]) -> Told {
+fn answer_line<R: Print + Eprint + Clock>(rt: &R, d: Desk, line: &[u8], out: &mut [u8]) -> Told {
     let a = console_commands::answer(d, line, out);
     let n = a.length;
     let desk = a.desk;
     Told {
         desk,
-        going: system_streams::print(&out[..n]),
+        going: system_streams::print(rt, &out[..n]),
     }
 }

@@ -7,6 +7,7 @@ ghost use Rattle.list_printing.specs.Printed.{Printed, Listed};
 mod counting;
 
 use list_output::Output;
+use std::time::Clock;
 
 // One byte more than an input may have.
 pub fn input_buffer() -> [u8; 65537]
@@ -16,23 +17,23 @@ pub fn input_buffer() -> [u8; 65537]
 }
 
 // All that is printed for an input: whether all of it was taken.
-pub fn print_list(bytes: &[u8]) -> bool
+pub fn print_list<R: Print + Eprint + Clock>(rt: &R, bytes: &[u8]) -> bool
     ensures { Listed bytes.now result }
 {
-    print_from(list_output::start(bytes))
+    print_from(rt, list_output::start(bytes))
 }
 
 // The same without the lines of the solutions: their number alone, or why there is none.
-pub fn print_count(bytes: &[u8]) -> bool {
+pub fn print_count<R: Print + Eprint + Clock>(rt: &R, bytes: &[u8]) -> bool {
     let o = list_output::start(bytes);
     if let Output::List(s, _) = o {
-        return print_from(Output::Last(counting::count(s)));
+        return print_from(rt, Output::Last(counting::count(s)));
     }
-    print_from(o)
+    print_from(rt, o)
 }
 
 // Piece after piece until nothing more comes, or not all of one was taken.
-fn print_from(from: Output) -> bool
+fn print_from<R: Print + Eprint + Clock>(rt: &R, from: Output) -> bool
     ensures { Printed from result }
 {
     let mut space = output_buffer();
@@ -41,7 +42,7 @@ fn print_from(from: Output) -> bool
     while !list_output::is_done(o) {
         let p = list_output::next(o, out);
         let n = p.length;
-        let sent = system_streams::print(&out[..n]);
+        let sent = system_streams::print(rt, &out[..n]);
         o = p.next;
         if !sent {
             return false;

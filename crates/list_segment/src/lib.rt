@@ -12,6 +12,7 @@ ghost use Rattle.list_segment.specs.Printed.{Printed};
 
 use region::Job;
 use ring::Point;
+use std::time::Clock;
 use walk::Spot;
 
 // No coordinate is less.
@@ -26,7 +27,7 @@ struct Piece {
 }
 
 // Prints the lines of the points with a from lo to hi, page after page: whether all were taken.
-pub fn print(job: Job, lo: i32, hi: i32) -> bool
+pub fn print<R: Print + Eprint + Clock>(rt: &R, job: Job, lo: i32, hi: i32) -> bool
     ensures { Printed (part_lines job.k lo hi (full job)) result }
 {
     let mut space = output_buffer();
@@ -36,7 +37,7 @@ pub fn print(job: Job, lo: i32, hi: i32) -> bool
     while more {
         let p = page(job, from, hi, out);
         let n = p.length;
-        if !system_streams::print(&out[..n]) {
+        if !system_streams::print(rt, &out[..n]) {
             return false;
         }
         from = p.from;

@@ -14,12 +14,14 @@ ghost use Rattle.list_segment.specs.Printed.{Printed};
 ghost use Rattle.part.specs.Part.{part_of};
 ghost use Rattle.part.specs.Answered.{Answered};
 
-use libc::STDIN_FILENO;
 use list_input::Input;
 use list_output::Output;
 use operator::Operator;
 use region::Job;
 use session::{Session, Stage};
+use std::env::Env;
+use std::io;
+use std::time::Clock;
 use text_numeral::Numeral;
 
 // The arguments LO and HI, or others.
@@ -29,25 +31,27 @@ enum Ends {
     Bad,
 }
 
-fn main() {
-    let r = range();
+fn main(rt: HostRuntime) {
+    let r = range(&rt);
     match r {
         Ends::Given(lo, hi) => {
             let mut input = list_printing::input_buffer();
-            answer(&mut input, lo, hi);
+            answer(&rt, &mut input, lo, hi);
         }
         Ends::Bad => program_usage::say(
+            &rt,
+            &mut rt.stderr(),
             b"usage: part LO HI < JOB\nThe points of a job with a from LO to HI, one a line.\n",
         ),
     }
 }
 
-fn range() -> Ends {
-    if os::arg_count() != 3 {
+fn range<R: Env>(rt: &R) -> Ends {
+    if program_usage::has_argument(rt, 3) {
         return Ends::Bad;
     }
-    let l = argument(1);
-    let h = argument(2);
+    let l = argument(rt, 1);
+    let h = argument(rt, 2);
     if let Numeral::Value(lo) = l {
         if let Numeral::Value(hi) = h {
             return Ends::Given(lo, hi);
@@ -56,44 +60,47 @@ fn range() -> Ends {
     Ends::Bad
 }
 
-// An argument of more than 32 bytes is no number.
-fn argument(i: usize) -> Numeral {
+// An argument that is missing or has more than 32 bytes is no number.
+fn argument<R: Env>(rt: &R, i: usize) -> Numeral {
     let mut word = [0u8; 32];
-    let n = os::arg(i, &mut word);
-    text_numeral::read(&word[..n])
+    match rt.arg(i, &mut word) {
+        Ok(n) => text_numeral::read(&word[..n]),
+        Err(_) => text_numeral::read(&[]),
+    }
 }
 
 // Whether the input came without a failure and all of its part was taken. After a read that failed nothing is printed.
-fn answer(input: &mut [u8], lo: i32, hi: i32) -> bool
+fn answer<R: io::Input + Print + Eprint + Clock>(rt: &R, input: &mut [u8], lo: i32, hi: i32) -> bool
     ensures { Answered lo hi input.new result }
 {
-    let got = system_streams::read(STDIN_FILENO, b"standard input", input);
+    let mut from = rt.reader();
+    let got = system_streams::read(&mut from, rt, b"standard input", input);
     let n = got.at;
     if got.failed {
         return false;
     }
-    print(&input[..n], lo, hi)
+    print(rt, &input[..n], lo, hi)
 }
 
-fn print(bytes: &[u8], lo: i32, hi: i32) -> bool
+fn print<R: Print + Eprint + Clock>(rt: &R, bytes: &[u8], lo: i32, hi: i32) -> bool
     ensures { Printed (part_of lo hi bytes.now) result }
 {
     let input = list_input::load(bytes);
     match input {
-        Input::TooLong => line(Output::TooLong),
-        Input::Refused(f, at) => line(Output::Refusal(f, at)),
-        Input::Job(s) => lines(s, lo, hi),
+        Input::TooLong => line(rt, Output::TooLong),
+        Input::Refused(f, at) => line(rt, Output::Refusal(f, at)),
+        Input::Job(s) => lines(rt, s, lo, hi),
     }
 }
 
 // The one line for an input that is no job, as the list program prints it.
-fn line(o: Output) -> bool
+fn line<R: Print + Eprint + Clock>(rt: &R, o: Output) -> bool
     ensures { Sent (piece_of 126 (state_of o)).text result }
 {
     let mut space = line_buffer();
     let p = list_output::next(o, &mut space);
     let n = p.length;
-    system_streams::print(&space[..n])
+    system_streams::print(rt, &space[..n])
 }
 
 fn line_buffer() -> [u8; 126]
@@ -102,22 +109,22 @@ fn line_buffer() -> [u8; 126]
     [0; 126]
 }
 
-fn lines(s: Session, lo: i32, hi: i32) -> bool
+fn lines<R: Print + Eprint + Clock>(rt: &R, s: Session, lo: i32, hi: i32) -> bool
     ensures { Printed (part_lines (scale_of (meaning s)) lo hi (full_of world (meaning s))) result }
 {
     let g = s.stage;
     match g {
         Stage::Early(_) => true,
-        Stage::Walking(c) => of_job(c.job, lo, hi),
+        Stage::Walking(c) => of_job(rt, c.job, lo, hi),
     }
 }
 
 // For a job that lists nothing the question is quicker than a walk.
-fn of_job(job: Job, lo: i32, hi: i32) -> bool
+fn of_job<R: Print + Eprint + Clock>(rt: &R, job: Job, lo: i32, hi: i32) -> bool
     ensures { Printed (part_lines job.k lo hi (full job)) result }
 {
     if !question::has_solution(job, Operator::IDENTITY) {
         return true;
     }
-    list_segment::print(job, lo, hi)
+    list_segment::print(rt, job, lo, hi)
 }

@@ -5,7 +5,6 @@ ghost use Rattle.std.specs.Prelude.{◌≡◌, ◌≤◌, length, take};
 ghost use Rattle.system_transfer.specs.Sending.{Sent};
 ghost use Rattle.system_transfer.specs.Receiving.{Received};
 
-use std::io::{Eprint, Input, Print};
 use std::time::Clock;
 use system_transfer::Transfer;
 

@@ -9,35 +9,39 @@ ghost use Rattle.list_input.specs.Load.{load_of};
 ghost use Rattle.show.specs.Show.{texts_for, show_of};
 
 use list_input::Input;
+use std::io;
+use std::time::Clock;
 
-fn main() {
+fn main(rt: HostRuntime) {
     if program_usage::told(
+        &rt,
+        &mut rt.stderr(),
         b"usage: show < JOB\nThe words that say a job's records, a line each.\n",
     ) {
         return;
     }
     let mut input = program_filter::input_buffer();
-    answer(&mut input);
+    answer(&rt, &mut input);
 }
 
 // Whether the input came without a failure and all of its output was taken. After a read that failed nothing is printed.
-fn answer(input: &mut [u8]) -> bool
+fn answer<R: io::Input + Print + Eprint + Clock>(rt: &R, input: &mut [u8]) -> bool
     ensures { Answered show_of input.new result }
 {
-    let got = program_filter::read(input);
+    let got = program_filter::read(rt, input);
     let n = got.at;
     if got.failed {
         return false;
     }
-    say(&input[..n])
+    say(rt, &input[..n])
 }
 
-fn say(bytes: &[u8]) -> bool
+fn say<R: Print + Eprint + Clock>(rt: &R, bytes: &[u8]) -> bool
     ensures { Sent (show_of bytes.now) result }
 {
     let mut out = output_buffer();
     let n = put(&mut out, bytes);
-    program_filter::print(&out, n)
+    program_filter::print(rt, &out, n)
 }
 
 // The lines of a job's records, or what `list` says of an input that is none.

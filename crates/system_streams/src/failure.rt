@@ -2,7 +2,7 @@
 ghost use Rattle.std.specs.Prelude.{◌≤◌};
 
 use std::fmt::Write;
-use std::io::{Eprint, ErrorKind};
+use std::io::ErrorKind;
 use std::{fmt, io, str};
 
 // The longest text of an error that is told whole.

@@ -5,13 +5,15 @@ ghost use Rattle.std.specs.Prelude.{◌≤◌, length, is_ok};
 ghost use Rattle.system_transfer.specs.Sending.{Turn, Sent};
 
 mod failure;
+mod files;
 mod reading;
 mod wait;
 
 pub use failure::fail;
+pub use files::open;
 pub use reading::{read, read_some};
 use std::io;
-use std::io::{Eprint, Print, Write};
+use std::io::Write;
 use std::time::Clock;
 use system_transfer::Transfer;
 

@@ -4,7 +4,7 @@ ghost use Rattle.system_transfer.specs.Receiving.{Turn, Received, Arrived};
 
 use crate::{failure, wait};
 use std::io;
-use std::io::{Eprint, Read};
+use std::io::Read;
 use std::time::Clock;
 use system_transfer::Transfer;
 

@@ -10,6 +10,8 @@ mod texts;
 ghost use Rattle.std.specs.Prelude.{◌≤◌, length};
 
 use cells::Cell;
+use std::rt::Files;
+use std::time::Clock;
 use test_rows::Tally;
 
 #[derive(Clone, Copy)]
@@ -23,20 +25,20 @@ enum Table {
     Sheets,
 }
 
-fn main() {
-    compare_file(b"cost", b"cost.txt", Table::Costs);
-    compare_file(b"cost_runs", b"cost_runs.txt", Table::CostRuns);
-    compare_file(b"tray", b"tray.txt", Table::Trays);
-    compare_file(b"tray_runs", b"tray_runs.txt", Table::TrayRuns);
-    compare_file(b"write", b"write.txt", Table::Written);
-    compare_file(b"read", b"read.txt", Table::Read);
-    compare_file(b"sheet", b"sheet.txt", Table::Sheets);
+fn main(rt: HostRuntime) {
+    compare_file(&rt, b"cost", b"cost.txt", Table::Costs);
+    compare_file(&rt, b"cost_runs", b"cost_runs.txt", Table::CostRuns);
+    compare_file(&rt, b"tray", b"tray.txt", Table::Trays);
+    compare_file(&rt, b"tray_runs", b"tray_runs.txt", Table::TrayRuns);
+    compare_file(&rt, b"write", b"write.txt", Table::Written);
+    compare_file(&rt, b"read", b"read.txt", Table::Read);
+    compare_file(&rt, b"sheet", b"sheet.txt", Table::Sheets);
 }
 
-fn compare_file(name: &[u8], file: &[u8], table: Table) {
+fn compare_file<R: Files + Print + Eprint + Clock>(rt: &R, name: &[u8], file: &[u8], table: Table) {
     let mut space = io::large_buffer();
-    let n = test_rows::load(file, &mut space);
-    compare(&space[..n], table).print(name);
+    let n = test_rows::load(rt, file, &mut space);
+    compare(&space[..n], table).print(rt, name);
 }
 
 fn compare(s: &[u8], table: Table) -> Tally {

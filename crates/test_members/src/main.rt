@@ -7,10 +7,10 @@ use integers::{Narrow, Short};
 use region::{Job, Rectangle, Region, Slice};
 use test_rows::{Row, Tally};
 
-fn main() {
+fn main(rt: HostRuntime) {
     let mut space = io::large_buffer();
-    let n = test_rows::load(b"member.txt", &mut space);
-    compare(&space[..n]).print(b"members");
+    let n = test_rows::load(&rt, b"member.txt", &mut space);
+    compare(&space[..n]).print(&rt, b"members");
 }
 
 fn compare(s: &[u8]) -> Tally {

@@ -6,10 +6,12 @@ mod records;
 
 ghost use Rattle.std.specs.Prelude.{◌≡◌, length};
 
-fn main() {
+use std::time::Clock;
+
+fn main(rt: HostRuntime) {
     let mut space = buffer();
     fill(&mut space);
-    list_all(&space);
+    list_all(&rt, &space);
 }
 
 fn buffer() -> [u8; 140000]
@@ -39,10 +41,10 @@ fn byte_of(x: u32) -> u8 {
 }
 
 // The n bytes from place n on, for each n, until an output is not taken.
-fn list_all(bytes: &[u8]) {
+fn list_all<R: Print + Eprint + Clock>(rt: &R, bytes: &[u8]) {
     let mut n = 0;
     while n <= bytes.len() / 2 {
-        if !list_one(&bytes[n..n + n]) {
+        if !list_one(rt, &bytes[n..n + n]) {
             return;
         }
         n += 1;
@@ -50,10 +52,10 @@ fn list_all(bytes: &[u8]) {
 }
 
 // Whether all of it was taken.
-fn list_one(bytes: &[u8]) -> bool {
+fn list_one<R: Print + Eprint + Clock>(rt: &R, bytes: &[u8]) -> bool {
     if bytes.len() % 3 == 0 {
-        records::list(bytes)
+        records::list(rt, bytes)
     } else {
-        list_printing::print_list(bytes)
+        list_printing::print_list(rt, bytes)
     }
 }

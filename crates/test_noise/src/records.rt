@@ -1,6 +1,8 @@
 // Records in place of random bytes, with one of those put among them.
 ghost use Rattle.std.specs.Prelude.{◌≡◌, ◌+◌, ◌<◌, ◌≤◌, length};
 
+use std::time::Clock;
+
 // Five jobs: unit disks; a rectangle and an ellipse at scale 1, all points; a point and a small square at scale 20, all points; a slice and the unit disk at scale 2; the unit disk and a slice at scale 3, new points by a record. Then two operators.
 const RECORDS: [u8; 234] = [
     1, 0, 3, 1, 0, 0, 0, 0, 0, 0, 0, 0, 0, 1, 0, 0, 0, 1, 0, 1, 0, 0, 0, 3, 1, 0, 0, 0, 0, 0, 0, 0,
@@ -22,24 +24,24 @@ struct Job {
 }
 
 // What the list program prints for as many bytes of records as there are random ones.
-pub fn list(noise: &[u8]) -> bool {
+pub fn list<R: Print + Eprint + Clock>(rt: &R, noise: &[u8]) -> bool {
     let mut space = buffer();
-    list_in(&mut space, noise)
+    list_in(rt, &mut space, noise)
 }
 
-fn list_in(space: &mut [u8], noise: &[u8]) -> bool {
+fn list_in<R: Print + Eprint + Clock>(rt: &R, space: &mut [u8], noise: &[u8]) -> bool {
     let n = noise.len();
     let h = job_for(n);
     fill(space, h);
     spoil(space, n, h, noise);
-    print(space, n)
+    print(rt, space, n)
 }
 
-fn print(bytes: &[u8], n: usize) -> bool {
+fn print<R: Print + Eprint + Clock>(rt: &R, bytes: &[u8], n: usize) -> bool {
     if n > bytes.len() {
         return false;
     }
-    list_printing::print_list(&bytes[..n])
+    list_printing::print_list(rt, &bytes[..n])
 }
 
 fn buffer() -> [u8; 70000]

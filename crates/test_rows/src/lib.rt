@@ -4,6 +4,9 @@
 ghost use Rattle.std.specs.Prelude.{◌<◌, length};
 ghost use Rattle.io.specs.Counts.{IsPrefixLen};
 
+use std::io::Read;
+use std::rt::Files;
+use std::time::Clock;
 use text_scan::Number;
 
 // How many numbers of a row are kept.
@@ -47,10 +50,10 @@ impl Tally {
     }
 
     // A line with both numbers, on standard output.
-    pub fn print(self, name: &[u8]) {
+    pub fn print<R: Print + Eprint + Clock>(self, rt: &R, name: &[u8]) {
         let mut line = io::buffer();
         let n = self.put(&mut line, name);
-        print_first(&line, n);
+        print_first(rt, &line, n);
     }
 
     fn put(self, out: &mut [u8], name: &[u8]) -> usize {
@@ -63,23 +66,34 @@ impl Tally {
     }
 }
 
-fn print_first(line: &[u8], n: usize) {
+fn print_first<R: Print + Eprint + Clock>(rt: &R, line: &[u8], n: usize) {
     if n <= line.len() {
-        system_streams::print(&line[..n]);
+        system_streams::print(rt, &line[..n]);
     }
 }
 
 // The file's bytes at the start of space, and how many; none where it cannot be opened or read.
-pub fn load(name: &[u8], space: &mut [u8]) -> usize
+pub fn load<R: Files + Eprint + Clock>(rt: &R, name: &[u8], space: &mut [u8]) -> usize
     ensures { IsPrefixLen result space.new }
 {
-    let fd = os::open_read(name);
-    if fd < 0 {
-        os::fail(name);
-        return 0;
+    match system_streams::open(rt, name) {
+        Ok(file) => read(file, rt, name, space),
+        Err(why) => {
+            system_streams::fail(rt, name, why);
+            0
+        }
     }
-    let got = system_streams::read(fd, name, space);
-    libc::close(fd);
+}
+
+fn read<F: Read + Drop, R: Eprint + Clock>(
+    mut file: F,
+    rt: &R,
+    name: &[u8],
+    space: &mut [u8],
+) -> usize
+    ensures { IsPrefixLen result space.new }
+{
+    let got = system_streams::read(&mut file, rt, name, space);
     if got.failed {
         return 0;
     }

@@ -6,6 +6,8 @@ mod pairs;
 mod pieces;
 mod tails;
 
+use std::rt::Files;
+use std::time::Clock;
 use test_rows::{Row, Tally};
 
 #[derive(Clone, Copy)]
@@ -14,15 +16,15 @@ enum Table {
     Words,
 }
 
-fn main() {
-    compare_file(b"tails", b"tails.txt", Table::Tails);
-    compare_file(b"words", b"words.txt", Table::Words);
+fn main(rt: HostRuntime) {
+    compare_file(&rt, b"tails", b"tails.txt", Table::Tails);
+    compare_file(&rt, b"words", b"words.txt", Table::Words);
 }
 
-fn compare_file(name: &[u8], file: &[u8], table: Table) {
+fn compare_file<R: Files + Print + Eprint + Clock>(rt: &R, name: &[u8], file: &[u8], table: Table) {
     let mut space = io::large_buffer();
-    let n = test_rows::load(file, &mut space);
-    compare(&space[..n], table).print(name);
+    let n = test_rows::load(rt, file, &mut space);
+    compare(&space[..n], table).print(rt, name);
 }
 
 fn compare(s: &[u8], table: Table) -> Tally {

@@ -9,6 +9,8 @@ mod operators;
 mod sign;
 
 use integers_wide::Size;
+use std::rt::Files;
+use std::time::Clock;
 use test_rows::{Row, Tally};
 
 #[derive(Clone, Copy)]
@@ -21,34 +23,34 @@ enum Table {
     Entries,
 }
 
-fn main() {
-    compare_numbers();
-    compare_operators();
-    compare_lists();
-    print_wide(0, 18446744073709551615);
-    print_wide(1, 0);
-    print_wide(18446744073709551615, 18446744073709551615);
+fn main(rt: HostRuntime) {
+    compare_numbers(&rt);
+    compare_operators(&rt);
+    compare_lists(&rt);
+    print_wide(&rt, 0, 18446744073709551615);
+    print_wide(&rt, 1, 0);
+    print_wide(&rt, 18446744073709551615, 18446744073709551615);
 }
 
-fn compare_numbers() {
-    compare_file(b"sign", b"sign.txt", Table::Signs);
-    compare_file(b"exponent", b"exponent.txt", Table::Exponents);
+fn compare_numbers<R: Files + Print + Eprint + Clock>(rt: &R) {
+    compare_file(rt, b"sign", b"sign.txt", Table::Signs);
+    compare_file(rt, b"exponent", b"exponent.txt", Table::Exponents);
 }
 
-fn compare_operators() {
-    compare_file(b"op", b"op.txt", Table::Checks);
-    compare_file(b"apply", b"apply.txt", Table::Images);
+fn compare_operators<R: Files + Print + Eprint + Clock>(rt: &R) {
+    compare_file(rt, b"op", b"op.txt", Table::Checks);
+    compare_file(rt, b"apply", b"apply.txt", Table::Images);
 }
 
-fn compare_lists() {
-    compare_file(b"line", b"line.txt", Table::Lines);
-    compare_file(b"entry", b"entry.txt", Table::Entries);
+fn compare_lists<R: Files + Print + Eprint + Clock>(rt: &R) {
+    compare_file(rt, b"line", b"line.txt", Table::Lines);
+    compare_file(rt, b"entry", b"entry.txt", Table::Entries);
 }
 
-fn compare_file(name: &[u8], file: &[u8], table: Table) {
+fn compare_file<R: Files + Print + Eprint + Clock>(rt: &R, name: &[u8], file: &[u8], table: Table) {
     let mut space = io::large_buffer();
-    let n = test_rows::load(file, &mut space);
-    compare(&space[..n], table).print(name);
+    let n = test_rows::load(rt, file, &mut space);
+    compare(&space[..n], table).print(rt, name);
 }
 
 fn compare(s: &[u8], table: Table) -> Tally {
@@ -75,10 +77,10 @@ fn right(s: &[u8], at: usize, row: Row, table: Table) -> bool {
 }
 
 // A number of two words in decimal, on a line.
-fn print_wide(hi: u64, lo: u64) {
+fn print_wide<R: Print + Eprint + Clock>(rt: &R, hi: u64, lo: u64) {
     let mut line = io::buffer();
     let n = text::put_wide(&mut line, 0, Size { hi, lo });
-    if system_streams::print(&line[..n]) {
-        system_streams::print(b"\n");
+    if system_streams::print(rt, &line[..n]) {
+        system_streams::print(rt, b"\n");
     }
 }

@@ -2,15 +2,16 @@
 #![tactic(auto)]
 
 use gate_tariff::Tariff;
-use libc::STDIN_FILENO;
+use std::time::Clock;
 
 const TURNS: u64 = 20000;
 
-fn main() {
+fn main(rt: HostRuntime) {
+    let mut from = rt.reader();
     let mut mode = [0u8; 1];
-    system_streams::read(STDIN_FILENO, b"standard input", &mut mode);
+    system_streams::read(&mut from, &rt, b"standard input", &mut mode);
     let mut given = io::large_buffer();
-    let got = system_streams::read(STDIN_FILENO, b"standard input", &mut given);
+    let got = system_streams::read(&mut from, &rt, b"standard input", &mut given);
     let n = got.at;
     if got.failed {
         return;
@@ -18,7 +19,7 @@ fn main() {
     let mut out = room();
     let mut line = io::buffer();
     let k = put(&mut line, timed(mode[0], &given[..n], &mut out));
-    print(&line, k);
+    print(&rt, &line, k);
 }
 
 // Zeros for the text of a word of 65,536 letters.
@@ -32,9 +33,9 @@ fn put(out: &mut [u8], sum: u64) -> usize {
     text::put_byte(out, at, b'\n')
 }
 
-fn print(line: &[u8], n: usize) {
+fn print<R: Print + Eprint + Clock>(rt: &R, line: &[u8], n: usize) {
     if n <= line.len() {
-        system_streams::print(&line[..n]);
+        system_streams::print(rt, &line[..n]);
     }
 }
 

@@ -6,32 +6,38 @@ ghost use Rattle.system_transfer.specs.Sending.{Sent};
 ghost use Rattle.program_filter.specs.Answered.{Answered};
 ghost use Rattle.qasm_file.specs.File.{back_of};
 
-fn main() {
-    if program_usage::told(b"usage: unqasm < FILE\nThe word of a file of OpenQASM 2.0.\n") {
+use std::time::Clock;
+
+fn main(rt: HostRuntime) {
+    if program_usage::told(
+        &rt,
+        &mut rt.stderr(),
+        b"usage: unqasm < FILE\nThe word of a file of OpenQASM 2.0.\n",
+    ) {
         return;
     }
     let mut input = input_buffer();
-    answer(&mut input);
+    answer(&rt, &mut input);
 }
 
 // Whether the input came without a failure and all of its output was taken. After a read that failed nothing is printed.
-fn answer(input: &mut [u8]) -> bool
+fn answer<R: Input + Print + Eprint + Clock>(rt: &R, input: &mut [u8]) -> bool
     ensures { Answered back_of input.new result }
 {
-    let got = program_filter::read(input);
+    let got = program_filter::read(rt, input);
     let n = got.at;
     if got.failed {
         return false;
     }
-    say(&input[..n])
+    say(rt, &input[..n])
 }
 
-fn say(bytes: &[u8]) -> bool
+fn say<R: Print + Eprint + Clock>(rt: &R, bytes: &[u8]) -> bool
     ensures { Sent (back_of bytes.now) result }
 {
     let mut out = output_buffer();
     let n = qasm_file::put_back(&mut out, bytes);
-    program_filter::print(&out, n)
+    program_filter::print(rt, &out, n)
 }
 
 fn output_buffer() -> [u8; 65537]

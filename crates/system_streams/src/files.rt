@@ -1,0 +1,11 @@
+// Files by name.
+use std::rt::Files;
+use std::{fs, io, str};
+
+// The file of that name, to be read. A name that is no text has none.
+pub fn open<R: Files>(rt: &R, name: &[u8]) -> io::Result<R::File> {
+    match str::from_utf8(name) {
+        Ok(path) => fs::open(rt, path),
+        Err(_) => Err(io::Error::from(io::ErrorKind::InvalidInput)),
+    }
+}
