@@ -16,60 +16,60 @@ use Rattle.job_words.proofs.bad_line.Tie as tie
 within : (bytes : List ℕ) (at end : ℕ) → at < length bytes → end ≡ line_end bytes at → (at ≤ end) × (end ≤ length bytes)
 within bytes at end h e = let b = run_end-within (is_byte 10 false) bytes at (le_of_lt h) in (omega arith, omega arith)
 
-abbrev invariant-loop : tie.invariant-loop
+abbrev invariant-loop : tie.invariant-loop-at
 invariant-loop bytes at₀ line₀ at line = (line ≤ at + 1) × (first_bad line (rows_of (drop at bytes)) ≡ first_bad 1 (rows_of bytes))
 
-abbrev decreases-loop : tie.decreases-loop
+abbrev decreases-loop : tie.decreases-loop-at
 decreases-loop bytes at₀ line₀ at line = length bytes - at
 
-loop-holds : tie.Need-loop-init invariant-loop decreases-loop
+loop-holds : tie.Need-loop-at-init invariant-loop decreases-loop
 loop-holds c = (omega arith, refl)
 
-line-end-requires : tie.Need-line-end-requires invariant-loop decreases-loop
+line-end-requires : tie.Need-line_end-end-requires invariant-loop decreases-loop
 line-end-requires c κs = search rules
 
-sub-is-bad : tie.Need-overflow-sub-is-bad invariant-loop decreases-loop
-sub-is-bad c = (within c.before.before.before.before.args.bytes.now c.before.before.loop.at c.line-end.result c.before.loop-test.true c.line-end.ensures).0
+sub-is-bad : tie.Need-slice_bounds-is_bad-count invariant-loop decreases-loop
+sub-is-bad c = (within c.args.bytes.now c.loop-at.at c.line_end-end.result c.loop-at-test.true c.line_end-end.ensures).0
 
-part-is-bad-start : tie.Need-slice-bounds-is-bad-start invariant-loop decreases-loop
-part-is-bad-start c = (within c.before.before.before.before.args.bytes.now c.before.before.loop.at c.line-end.result c.before.loop-test.true c.line-end.ensures).0
+part-is-bad-start : tie.Need-slice_bounds-is_bad-start invariant-loop decreases-loop
+part-is-bad-start c = (within c.args.bytes.now c.loop-at.at c.line_end-end.result c.loop-at-test.true c.line_end-end.ensures).0
 
-part-is-bad-end : tie.Need-slice-bounds-is-bad-end invariant-loop decreases-loop
-part-is-bad-end c = (within c.before.before.before.before.args.bytes.now c.before.before.loop.at c.line-end.result c.before.loop-test.true c.line-end.ensures).1
+part-is-bad-end : tie.Need-slice_bounds-is_bad-end invariant-loop decreases-loop
+part-is-bad-end c = (within c.args.bytes.now c.loop-at.at c.line_end-end.result c.loop-at-test.true c.line_end-end.ensures).1
 
-is-bad-requires : tie.Need-is-bad-requires invariant-loop decreases-loop
+is-bad-requires : tie.Need-is_bad-requires invariant-loop decreases-loop
 is-bad-requires c κs = search rules
 
-returns : tie.Need-returns invariant-loop decreases-loop
+returns : tie.Need-returns-then-is_bad invariant-loop decreases-loop
 returns c =
-    let l = c.before.before.before.before.before in
-    let b = c.before.before.before.before.before.before.before.args.bytes.now in
-    let e = rw c.before.before.before.line-end.ensures at c.before.is-bad.ensures in
-    sym (ap (first_bad l.loop.line) (rows_more b l.loop.at c.before.before.before.before.loop-test.true) ∙ bad_here l.loop.line _ _ (sym e ∙ c.if1.true)) ∙ l.loop.invariant.1
+    let l = c in
+    let b = c.args.bytes.now in
+    let e = rw c.line_end-end.ensures at c.is_bad.ensures in
+    sym (ap (first_bad c.loop-at.line) (rows_more b c.loop-at.at c.loop-at-test.true) ∙ bad_here c.loop-at.line _ _ (sym e ∙ c.if-is_bad.true)) ∙ c.loop-at.invariant.1
 
-add_at : tie.Need-overflow-add-at invariant-loop decreases-loop
-add_at c = let w = within c.before.before.before.before.before.before.before.args.bytes.now c.before.before.before.before.before.loop.at c.before.before.before.line-end.result c.before.before.before.before.loop-test.true c.before.before.before.line-end.ensures in search rules
+add_at : tie.Need-overflow_add-at invariant-loop decreases-loop
+add_at c = let w = within c.args.bytes.now c.loop-at.at c.line_end-end.result c.loop-at-test.true c.line_end-end.ensures in search rules
 
-add-line : tie.Need-overflow-add-line invariant-loop decreases-loop
-add-line c = let i = c.before.before.before.before.before.loop.invariant.0 in search rules
+add-line : tie.Need-overflow_add-line invariant-loop decreases-loop
+add-line c = let i = c.loop-at.invariant.0 in search rules
 
-loop-less : tie.Need-loop-smaller invariant-loop decreases-loop
-loop-less c = let w = within c.before.before.before.before.before.before.before.args.bytes.now c.before.before.before.before.before.loop.at c.before.before.before.line-end.result c.before.before.before.before.loop-test.true c.before.before.before.line-end.ensures in omega arith
+loop-less : tie.Need-loop-at-smaller invariant-loop decreases-loop
+loop-less c = let w = within c.args.bytes.now c.loop-at.at c.line_end-end.result c.loop-at-test.true c.line_end-end.ensures in omega arith
 
-loop-again : tie.Need-loop-preserved invariant-loop decreases-loop
+loop-again : tie.Need-loop-at-preserved invariant-loop decreases-loop
 loop-again c =
-    let l = c.before.before.before.before.before in
-    let b = c.before.before.before.before.before.before.before.args.bytes.now in
-    let w = within c.before.before.before.before.before.before.before.args.bytes.now c.before.before.before.before.before.loop.at c.before.before.before.line-end.result c.before.before.before.before.loop-test.true c.before.before.before.line-end.ensures in
-    let e = rw c.before.before.before.line-end.ensures at c.before.is-bad.ensures in
-    (omega arith, rw (c.before.before.before.line-end.ensures, add-one) (sym (ap (first_bad l.loop.line) (rows_more b l.loop.at c.before.before.before.before.loop-test.true) ∙ bad_later l.loop.line _ _ (sym e ∙ c.if1.false)) ∙ l.loop.invariant.1))
+    let l = c in
+    let b = c.args.bytes.now in
+    let w = within c.args.bytes.now c.loop-at.at c.line_end-end.result c.loop-at-test.true c.line_end-end.ensures in
+    let e = rw c.line_end-end.ensures at c.is_bad.ensures in
+    (omega arith, rw (c.line_end-end.ensures, add-one) (sym (ap (first_bad c.loop-at.line) (rows_more b c.loop-at.at c.loop-at-test.true) ∙ bad_later c.loop-at.line _ _ (sym e ∙ c.if-is_bad.false)) ∙ c.loop-at.invariant.1))
 
-returns-2 : tie.Need-returns-2 invariant-loop decreases-loop
+returns-2 : tie.Need-returns invariant-loop decreases-loop
 unfolding first_bad
-returns-2 c = let l = c.before in sym (ap (first_bad l.loop.line) (rows_end c.before.before.before.args.bytes.now l.loop.at c.loop-test.false)) ∙ l.loop.invariant.1
+returns-2 c = let l = c in sym (ap (first_bad c.loop-at.line) (rows_end c.args.bytes.now c.loop-at.at c.loop-at-test.false)) ∙ c.loop-at.invariant.1
 
-pub bad-line-spec : {M : Type 1} → statement M
-bad-line-spec =
+pub bad_line_spec : {M : Type 1} → statement M
+bad_line_spec =
     tie.close
     (tie.spec
     invariant-loop

@@ -16,50 +16,50 @@ use Rattle.job_words.proofs.put_records.Tie as tie
 within : (bytes : List ℕ) (at end : ℕ) → at < length bytes → end ≡ line_end bytes at → (at ≤ end) × (end ≤ length bytes)
 within bytes at end h e = let b = run_end-within (is_byte 10 false) bytes at (le_of_lt h) in (omega arith, omega arith)
 
-abbrev invariant-loop : tie.invariant-loop
+abbrev invariant-loop : tie.invariant-loop-at
 invariant-loop out₀ bytes at₀ end-of₀ out at end_of_lem = laid (out, end_of_lem) (bytes_of (rows_of (drop at bytes))) ≡ laid (out₀, 0) (bytes_of (rows_of bytes))
 
-abbrev decreases-loop : tie.decreases-loop
+abbrev decreases-loop : tie.decreases-loop-at
 decreases-loop out₀ bytes at₀ end-of₀ out at end_of_lem = length bytes - at
 
-loop-holds : tie.Need-loop-init invariant-loop decreases-loop
+loop-holds : tie.Need-loop-at-init invariant-loop decreases-loop
 loop-holds c = refl
 
-line-end-requires : tie.Need-line-end-requires invariant-loop decreases-loop
+line-end-requires : tie.Need-line_end-end-requires invariant-loop decreases-loop
 line-end-requires c κs = search rules
 
-sub-put-row : tie.Need-overflow-sub-put-row invariant-loop decreases-loop
-sub-put-row c = (within c.before.before.before.before.before.before.args.bytes.now c.before.before.before.loop.at c.before.line-end.result c.before.before.loop-test.true c.before.line-end.ensures).0
+sub-put-row : tie.Need-slice_bounds-put_row-count invariant-loop decreases-loop
+sub-put-row c = (within c.args.bytes.now c.loop-at.at c.line_end-end.result c.loop-at-test.true c.line_end-end.ensures).0
 
-part-put-row-start : tie.Need-slice-bounds-put-row-start invariant-loop decreases-loop
-part-put-row-start c = (within c.before.before.before.before.before.before.args.bytes.now c.before.before.before.loop.at c.before.line-end.result c.before.before.loop-test.true c.before.line-end.ensures).0
+part-put-row-start : tie.Need-slice_bounds-put_row-start invariant-loop decreases-loop
+part-put-row-start c = (within c.args.bytes.now c.loop-at.at c.line_end-end.result c.loop-at-test.true c.line_end-end.ensures).0
 
-part-put-row-end : tie.Need-slice-bounds-put-row-end invariant-loop decreases-loop
-part-put-row-end c = (within c.before.before.before.before.before.before.args.bytes.now c.before.before.before.loop.at c.before.line-end.result c.before.before.loop-test.true c.before.line-end.ensures).1
+part-put-row-end : tie.Need-slice_bounds-put_row-end invariant-loop decreases-loop
+part-put-row-end c = (within c.args.bytes.now c.loop-at.at c.line_end-end.result c.loop-at-test.true c.line_end-end.ensures).1
 
-put-row-requires : tie.Need-put-row-requires invariant-loop decreases-loop
+put-row-requires : tie.Need-put_row-end_of-requires invariant-loop decreases-loop
 put-row-requires c κs = search rules
 
-add_at : tie.Need-overflow-add-at invariant-loop decreases-loop
-add_at c = let w = within c.before.before.before.before.before.before.before.before.before.before.args.bytes.now c.before.before.before.before.before.before.before.loop.at c.before.before.before.before.before.line-end.result c.before.before.before.before.before.before.loop-test.true c.before.before.before.before.before.line-end.ensures in search rules
+add_at : tie.Need-overflow_add-at invariant-loop decreases-loop
+add_at c = let w = within c.args.bytes.now c.loop-at.at c.line_end-end.result c.loop-at-test.true c.line_end-end.ensures in search rules
 
-loop-less : tie.Need-loop-smaller invariant-loop decreases-loop
-loop-less c = let w = within c.before.before.before.before.before.before.before.before.before.before.args.bytes.now c.before.before.before.before.before.before.before.loop.at c.before.before.before.before.before.line-end.result c.before.before.before.before.before.before.loop-test.true c.before.before.before.before.before.line-end.ensures in omega arith
+loop-less : tie.Need-loop-at-smaller invariant-loop decreases-loop
+loop-less c = let w = within c.args.bytes.now c.loop-at.at c.line_end-end.result c.loop-at-test.true c.line_end-end.ensures in omega arith
 
-loop-again : tie.Need-loop-preserved invariant-loop decreases-loop
+loop-again : tie.Need-loop-at-preserved invariant-loop decreases-loop
 loop-again c =
-    let l = c.before.before.before.before.before.before.before in
-    let e = rw c.before.before.before.before.before.line-end.ensures at c.before.before.put-row.ensures in
-    rw c.before.before.before.before.before.line-end.ensures (laid-row (l.loop.out, l.loop.end_of_lem) (c.before.before.put-row.new.0, c.before.before.put-row.result) c.before.before.before.before.before.before.before.before.before.before.args.bytes.now l.loop.at c.before.before.before.before.before.before.loop-test.true e ∙ l.loop.invariant)
+    let l = c in
+    let e = rw c.line_end-end.ensures at c.put_row-end_of.ensures in
+    rw c.line_end-end.ensures (laid-row (c.loop-at.out, c.loop-at.end_of) (c.put_row-end_of.new.out, c.put_row-end_of.result) c.args.bytes.now c.loop-at.at c.loop-at-test.true e ∙ c.loop-at.invariant)
 
-same_length : tie.Need-same-length invariant-loop decreases-loop
-same_length c = laid_same (c.before.loop.out, c.before.loop.end_of_lem) (c.before.before.before.before.args.out.now, 0) _ _ c.before.loop.invariant
+same_length : tie.Need-shape_of-out invariant-loop decreases-loop
+same_length c = laid_same (c.loop-at.out, c.loop-at.end_of) (c.args.out.now, 0) _ _ c.loop-at.invariant
 
 returns : tie.Need-returns invariant-loop decreases-loop
-returns c = sym (laid-rest (c.before.loop.out, c.before.loop.end_of_lem) c.before.before.before.before.args.bytes.now c.before.loop.at c.loop-test.false) ∙ c.before.loop.invariant
+returns c = sym (laid-rest (c.loop-at.out, c.loop-at.end_of) c.args.bytes.now c.loop-at.at c.loop-at-test.false) ∙ c.loop-at.invariant
 
-pub put-records-spec : {M : Type 1} → statement M
-put-records-spec =
+pub put_records_spec : {M : Type 1} → statement M
+put_records_spec =
     tie.close
     (tie.spec
     invariant-loop

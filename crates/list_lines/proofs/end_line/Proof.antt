@@ -44,17 +44,17 @@ returns c =
     let h : Fits w64 s.args.n.hi = search rules in
     let l : Fits w64 s.args.n.lo = search rules in
     let d = decimal-length 38 v (value-below s.args.n h.fits l.fits) in
-    let a = appended xs 0 word p.put_bytes-a.new.out p.put_bytes-a.result (omega arith) p.put_bytes-a.ensures.out p.put_bytes-a.ensures.1 in
+    let a = appended xs 0 word p.put_bytes-a.new.out p.put_bytes-a.result (omega arith) p.put_bytes-a.ensures.0 p.put_bytes-a.ensures.1 in
     let e = a.end in
     let m = a.same in
     let q =
-    marked p.put_bytes-a.new.out p.put_bytes-a.result (decimal v) 10 39 w.put_wide-b.new.0 b.put_byte.new.0 w.put_wide-b.result b.put_byte.result d (omega arith)
+    marked p.put_bytes-a.new.out p.put_bytes-a.result (decimal v) 10 39 w.put_wide-b.new.out b.put_byte.new.out w.put_wide-b.result b.put_byte.result d (omega arith)
     w.put_wide-b.ensures
     b.put_byte.ensures in
-    let all = append-more xs 0 word (decimal v ++ (10 ∷ [])) p.put_bytes-a.new.out b.put_byte.new.0 p.put_bytes-a.result b.put_byte.result a q.0 in
+    let all = append-more xs 0 word (decimal v ++ (10 ∷ [])) p.put_bytes-a.new.out b.put_byte.new.out p.put_bytes-a.result b.put_byte.result a q.0 in
     let f = all.same in
     let g = q.1 in
-    (all, (omega arith, sym (length-take-le b.put_byte.result b.put_byte.new.0 (omega arith))))
+    (all, (omega arith, sym (length-take-le b.put_byte.result b.put_byte.new.out (omega arith))))
 
 pub end_line_spec : {M : Type 1} → statement M
 end_line_spec =

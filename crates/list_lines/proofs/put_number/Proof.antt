@@ -18,7 +18,7 @@ returns c =
     let u = c in
     let s = u in
     let l = unsigned_length s.args.n (omega arith) in
-    let a = appended s.args.out.now s.args.at (decimal s.args.n) u.put_unsigned.new.out u.put_unsigned.result (omega arith) u.put_unsigned.ensures.out u.put_unsigned.ensures.1 in
+    let a = appended s.args.out.now s.args.at (decimal s.args.n) u.put_unsigned.new.out u.put_unsigned.result (omega arith) u.put_unsigned.ensures.0 u.put_unsigned.ensures.1 in
     let e = a.end in
     (a, omega arith)
 

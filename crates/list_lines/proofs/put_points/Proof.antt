@@ -48,8 +48,8 @@ spelled j =
     let i = p.loop-i.invariant.3 in
     let v = p.point_at-v.result in
     ⊎_elim
-    (λ w. subst₂ (λ (h : List ℕ) (m : ℕ). Spelled h m v) (sym w.4) (sym w.5) (w.2.ensures.0.same ∙ i.0, w.2.ensures.1, w.2.ensures.0.text))
-    (λ w. subst₂ (λ (h : List ℕ) (m : ℕ). Spelled h m v) (sym w.1) (sym w.2) (i.0, i.1, i.2 ∙ j.begins_row.ensures w.0.left))
+    (λ w. subst₂ (λ (h : List ℕ) (m : ℕ). Spelled h m v) (sym w.head-is) (sym w.length-is) (w.put_head-length-then-begins_row.ensures.0.same ∙ i.0, w.put_head-length-then-begins_row.ensures.1, w.put_head-length-then-begins_row.ensures.0.text))
+    (λ w. subst₂ (λ (h : List ℕ) (m : ℕ). Spelled h m v) (sym w.head-is) (sym w.length-is) (i.0, i.1, i.2 ∙ j.begins_row.ensures w.if-begins_row.false))
     j.if-begins_row.branch-raw
 
 slice-aggregate-put-head : tie.Need-slice_bounds-put_head-end invariant-loop decreases-loop
@@ -86,15 +86,15 @@ slice-aggregate-put-point c =
     let p = spelled j in
     let l = p.0 in
     let b = p.1 in
-    let e : j.if-begins_row.length ≡ length (take j.if-begins_row.length j.if-begins_row.head-1) = sym (length-take-le j.if-begins_row.length j.if-begins_row.head-1 (omega arith)) in
+    let e : j.if-begins_row.length ≡ length (take j.if-begins_row.length j.if-begins_row.head) = sym (length-take-le j.if-begins_row.length j.if-begins_row.head (omega arith)) in
     search rules
 
 put-point-requires : tie.Need-put_point-at-requires invariant-loop decreases-loop
 put-point-requires c κs =
     let j = c.before.before in
     let p = spelled j in
-    let l = length-take j.if-begins_row.length j.if-begins_row.head-1 in
-    let m = min-le_left j.if-begins_row.length (length j.if-begins_row.head-1) in
+    let l = length-take j.if-begins_row.length j.if-begins_row.head in
+    let m = min-le_left j.if-begins_row.length (length j.if-begins_row.head) in
     let b = p.1 in
     (room j.before.before.before, p.2, omega arith)
 
@@ -117,7 +117,7 @@ loop-again c =
       omega arith,
       omega arith,
       lines_next s.args.k s.args.points.now t.loop-i.i v.point_at-v.result s.args.out.now t.loop-i.out q.put_point-at.new.out t.loop-i.at q.put_point-at.result (there l.before.before.before.before) v.point_at-v.ensures t.loop-i.invariant.2 q.put_point-at.ensures.0,
-      spelled j,
+      spelled j.before.before,
     )
 
 same_length : tie.Need-shape_of-out invariant-loop decreases-loop

@@ -7,30 +7,30 @@ use borrow.Author.Rules.{rules}
 use Rattle.pattern_sheet.proofs.crew.Statement.{statement}
 use Rattle.pattern_sheet.proofs.crew.Tie as tie
 
-shared-slice-read-k : tie.Need-shared-slice-read-k
+shared-slice-read-k : tie.Need-bounds-s-1
 shared-slice-read-k c = search rules
 
-point-at-requires : tie.Need-point-at-requires
+point-at-requires : tie.Need-point_at-u-requires
 point-at-requires c κs = search rules
 
 exponent-requires : tie.Need-exponent-requires
 exponent-requires c κs = search rules
 
-pulse-count-requires : tie.Need-pulse-count-requires
+pulse-count-requires : tie.Need-pulse_count-m-requires
 pulse-count-requires c κs = search rules
 
-u32-at-requires : tie.Need-u32-at-requires
+u32-at-requires : tie.Need-u32_at-requires
 u32-at-requires c κs = search rules
 
 returns : tie.Need-returns
 unfolding crew_of
 returns c =
-    let s = c.before.before.before.before.before.before.args.s.now in
-    let m = c.before.pulse-count.ensures ∙ ap pulse_count (c.before.before.exponent.ensures ∙ ap (exponent_of (k_at s)) c.before.before.before.point_at.ensures) in
-    ap₂ (λ (m n : ℕ). Crew m n 38) m c.u32-at.ensures
+    let s = c.args.s.now in
+    let m = c.pulse_count-m.ensures ∙ ap pulse_count (c.exponent.ensures ∙ ap (exponent_of (k_at s)) c.point_at-u.ensures) in
+    ap₂ (λ (m n : ℕ). Crew m n 38) m c.u32_at.ensures
 
-pub crew-spec : {M : Type 1} → statement M
-crew-spec =
+pub crew_spec : {M : Type 1} → statement M
+crew_spec =
     tie.close
     (tie.spec
     shared-slice-read-k

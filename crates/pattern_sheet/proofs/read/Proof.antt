@@ -9,67 +9,67 @@ use borrow.Author.Rules.{rules}
 use Rattle.pattern_sheet.proofs.read.Statement.{statement}
 use Rattle.pattern_sheet.proofs.read.Tie as tie
 
-returns : tie.Need-returns
-returns c = read_low _ _ c.if1.true
+returns : tie.Need-returns-then-reader-lt-DESK
+returns c = read_low _ _ c.if-reader-lt-DESK.true
 
-returns-2 : tie.Need-returns-2
-returns-2 c = read-high _ _ c.if2.true
+returns-2 : tie.Need-returns-then-reader-gt-CREW
+returns-2 c = read-high _ _ c.if-reader-gt-CREW.true
 
-returns-3 : tie.Need-returns-3
-returns-3 c = read-empty _ _ c.before.before.if1.false c.before.if2.false c.if3.true
+returns-3 : tie.Need-returns-then-bytes-eq0
+returns-3 c = read-empty _ _ c.if-reader-lt-DESK.false c.if-reader-gt-CREW.false c.if-bytes-eq0.true
 
-shared-slice-read-if4 : tie.Need-shared-slice-read-if4
+shared-slice-read-if4 : tie.Need-bounds-bytes-0
 shared-slice-read-if4 c = search rules
 
-returns-4 : tie.Need-returns-4
+returns-4 : tie.Need-returns-then-bytes-ne-KIND
 returns-4 c =
-    let e = c.before.before in
-    read-other _ _ e.before.before.if1.false e.before.if2.false e.if3.false c.if4.true
+    let e = c in
+    read-other _ _ c.if-reader-lt-DESK.false c.if-reader-gt-CREW.false c.if-bytes-eq0.false c.if-bytes-ne-KIND.true
 
-returns-5 : tie.Need-returns-5
+returns-5 : tie.Need-returns-then-bytes-lt-LENGTH
 returns-5 c =
-    let k = c.before in
-    let e = k.before.before in
-    read_short _ _ e.before.before.if1.false e.before.if2.false e.if3.false k.if4.false c.if5.true
+    let k = c in
+    let e = k in
+    read_short _ _ c.if-reader-lt-DESK.false c.if-reader-gt-CREW.false c.if-bytes-eq0.false c.if-bytes-ne-KIND.false c.if-bytes-lt-LENGTH.true
 
-shared-slice-read-scale : tie.Need-shared-slice-read-scale
+shared-slice-read-scale : tie.Need-bounds-bytes-1
 shared-slice-read-scale c = search rules
 
 scale-requires : tie.Need-scale-requires
 scale-requires c κs = search rules
 
-returns-6 : tie.Need-returns-6
+returns-6 : tie.Need-returns-then-not-scale
 returns-6 c =
-    let w = c.before.before.before in
-    let k = w.before in
-    let e = k.before.before in
-    read-scale _ _ e.before.before.if1.false e.before.if2.false e.if3.false k.if4.false w.if5.false (sym c.before.scale.ensures ∙ not-true _ c.if6.true)
+    let w = c in
+    let k = w in
+    let e = k in
+    read-scale _ _ c.if-reader-lt-DESK.false c.if-reader-gt-CREW.false c.if-bytes-eq0.false c.if-bytes-ne-KIND.false c.if-bytes-lt-LENGTH.false (sym c.scale.ensures ∙ c.if-not-scale.true)
 
 -- past the sixth test k is in range
-ranged : (c : tie.Else6) → leb (k_at c.before.before.before.before.before.before.before.before.before.before.args.bytes.now) top_scale ≡ true
-ranged c = sym c.before.scale.ensures ∙ not-false _ c.if6.false
+ranged : (c : tie.Else-not-scale) → leb (k_at c.args.bytes.now) top_scale ≡ true
+ranged c = sym c.scale.ensures ∙ c.if-not-scale.false
 
 desk-requires : tie.Need-desk-requires
-desk-requires c κs = (c.before.before.before.before.if5.false, leb-true _ _ (ranged c.before))
+desk-requires c κs = (c.if-bytes-lt-LENGTH.false, leb-true _ _ (ranged c.before))
 
 crew-requires : tie.Need-crew-requires
 crew-requires c κs = search rules
 
-returns-7 : tie.Need-returns-7
+returns-7 : tie.Need-returns-then-reader-eq-DESK
 returns-7 c =
     let r = c.before.before in
     let w = r.before.before.before in
     let k = w.before in
     let e = k.before.before in
-    c.desk.ensures ∙ read-desk _ _ e.before.before.if1.false e.before.if2.false e.if3.false k.if4.false w.if5.false (ranged r) c.before.if7.true
+    c.desk.ensures ∙ read-desk _ _ c.if-reader-lt-DESK.false c.if-reader-gt-CREW.false c.if-bytes-eq0.false c.if-bytes-ne-KIND.false c.if-bytes-lt-LENGTH.false (ranged r) c.if-reader-eq-DESK.true
 
-returns-8 : tie.Need-returns-8
+returns-8 : tie.Need-returns-else-reader-eq-DESK
 returns-8 c =
     let r = c.before.before in
     let w = r.before.before.before in
     let k = w.before in
     let e = k.before.before in
-    c.crew.ensures ∙ read-crew _ _ e.before.before.if1.false e.before.if2.false e.if3.false k.if4.false w.if5.false (ranged r) c.before.if7.false
+    c.crew.ensures ∙ read-crew _ _ c.if-reader-lt-DESK.false c.if-reader-gt-CREW.false c.if-bytes-eq0.false c.if-bytes-ne-KIND.false c.if-bytes-lt-LENGTH.false (ranged r) c.if-reader-eq-DESK.false
 
 pub read_spec : {M : Type 1} → statement M
 read_spec =

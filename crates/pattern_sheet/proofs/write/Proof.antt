@@ -9,47 +9,47 @@ use Rattle.pattern_sheet.proofs.Writings.{write_scale, write_equation, write_ful
 use Rattle.pattern_sheet.proofs.write.Statement.{statement}
 use Rattle.pattern_sheet.proofs.write.Tie as tie
 
-scale-requires : tie.Need-scale-requires
+scale-requires : tie.Need-scale-ranged-requires
 scale-requires c κs = search rules
 
-completes-requires : tie.Need-completes-requires
+completes-requires : tie.Need-completes-unitary-requires
 completes-requires c κs = search rules
 
-returns : tie.Need-returns
+returns : tie.Need-returns-then-not-ranged
 returns c =
-    let s = c.before.before.before.before in
-    write_scale s.args.sheet s.args.out.now (sym c.before.before.scale.ensures ∙ not-true _ c.if1.true)
+    let s = c in
+    write_scale c.args.sheet c.args.out.now (sym c.scale-ranged.ensures ∙ c.if-not-ranged.true)
 
 -- past the first test k is in range, and the second tells of the equation
-module _ (c : tie.Else1) where
-  good : leb c.before.before.before.before.args.sheet.k top_scale ≡ true
-  good = sym c.before.before.scale.ensures ∙ not-false _ c.if1.false
+module _ (c : tie.Else-not-ranged) where
+  good : leb c.args.sheet.k top_scale ≡ true
+  good = sym c.scale-ranged.ensures ∙ c.if-not-ranged.false
 
-  solved : c.before.completes.result ≡ completes c.before.before.before.before.args.sheet.k c.before.before.before.before.args.sheet.u c.before.before.before.before.args.sheet.t
-  solved = c.before.completes.ensures ∙ rw good refl
+  solved : c.completes-unitary.result ≡ completes c.args.sheet.k c.args.sheet.u c.args.sheet.t
+  solved = c.completes-unitary.ensures ∙ rw good refl
 
-returns-2 : tie.Need-returns-2
+returns-2 : tie.Need-returns-then-not-unitary
 returns-2 c =
-    let s = c.before.before.before.before.before in
-    write_equation s.args.sheet s.args.out.now (good c.before) (sym (solved c.before) ∙ not-true _ c.if2.true)
+    let s = c in
+    write_equation c.args.sheet c.args.out.now (good c.before) (sym (solved c.before) ∙ c.if-not-unitary.true)
 
-returns-3 : tie.Need-returns-3
+returns-3 : tie.Need-returns-then-out-lt-LENGTH
 returns-3 c =
-    let s = c.before.before.before.before.before.before in
-    write_full s.args.sheet s.args.out.now (good c.before.before) (sym (solved c.before.before) ∙ not-false _ c.before.if2.false) c.if3.true
+    let s = c in
+    write_full c.args.sheet c.args.out.now (good c.before.before) (sym (solved c.before.before) ∙ c.if-not-unitary.false) c.if-out-lt-LENGTH.true
 
-put-sheet-requires : tie.Need-put-sheet-requires
+put-sheet-requires : tie.Need-put_sheet-requires
 put-sheet-requires c κs = search rules
 
-same_length : tie.Need-same-length
+same_length : tie.Need-shape_of-out
 same_length c = search rules
 
-returns-4 : tie.Need-returns-4
+returns-4 : tie.Need-returns
 returns-4 c =
-    let p = c.before.before in
-    let e = p.before.before in
-    let s = e.before.before.before.before.before.before in
-    write_done s.args.sheet s.args.out.now (good e.before.before) (sym (solved e.before.before) ∙ not-false _ e.before.if2.false) e.if3.false p.put-sheet.ensures
+    let p = c in
+    let e = p in
+    let s = e in
+    write_done c.args.sheet c.args.out.now (good e.before.before.before.before.before.before) (sym (solved e.before.before.before.before.before.before) ∙ c.if-not-unitary.false) c.if-out-lt-LENGTH.false c.put_sheet.ensures
 
 pub write_spec : {M : Type 1} → statement M
 write_spec =

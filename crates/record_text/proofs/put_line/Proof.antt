@@ -8,40 +8,40 @@ use borrow.Author.Rules.{rules}
 use Rattle.record_text.proofs.put_line.Statement.{statement}
 use Rattle.record_text.proofs.put_line.Tie as tie
 
-of-requires : tie.Need-of-requires
+of-requires : tie.Need-of-n-requires
 of-requires c κs = search rules
 
-put-name-requires : tie.Need-put-name-requires
+put-name-requires : tie.Need-put_name-a-requires
 put-name-requires c κs = search rules
 
-array-share-prefix-values : tie.Need-array-share-prefix-values
+array-share-prefix-values : tie.Need-slice_bounds-values-end
 array-share-prefix-values c = search rules
 
-slice-aggregate-put-rest : tie.Need-slice-aggregate-put-rest
-slice-aggregate-put-rest c = let n = c.before.before.before.before.before.before.before.of in let h = n.ensures.1 in let w = n.ensures.2 in sym (length-take-le n.result.count n.result.values (omega arith))
+slice-aggregate-put-rest : tie.Need-slice_bounds-put_rest-end
+slice-aggregate-put-rest c = let n = c.of-n in let h = n.ensures.1 in let w = n.ensures.2 in sym (length-take-le n.result.count n.result.values (omega arith))
 
-put-rest-requires : tie.Need-put-rest-requires
+put-rest-requires : tie.Need-put_rest-b-requires
 put-rest-requires c κs = search rules
 
-put-byte-requires : tie.Need-put-byte-requires
+put-byte-requires : tie.Need-put_byte-requires
 put-byte-requires c κs = search rules
 
-same_length : tie.Need-same-length
+same_length : tie.Need-shape_of-out
 same_length c = search rules
 
 returns : tie.Need-returns
 returns c =
-    let a = c.before.before.before.before.before.before.before.before.before.before.before.put-name in
-    let r = c.before.before.before.before.before.before.put_rest in
-    let f = c.before.before.put_byte in
-    let s = c.before.before.before.before.before.before.before.before.before.before.before.before.before.before.before.before.before.args in
+    let a = c.put_name-a in
+    let r = c.put_rest-b in
+    let f = c.put_byte in
+    let s = c.args in
     let k = s.kind in
     let zs = numbers_at (fields_of k) s.s.now 0 in
-    put-more (s.out.now, s.at) (a.new.0, a.result) (f.new.0, f.result) (name_texts k) _ a.ensures
-    (put-more (a.new.0, a.result) (r.new.0, r.result) (f.new.0, f.result) (rest_texts k zs) ((10 ∷ []) ∷ []) (rw c.before.before.before.before.before.before.before.before.before.before.before.before.before.before.of.ensures.0 at r.ensures) (put_one r.new.0 r.result (10 ∷ []) f.new.0 f.result f.ensures))
+    put-more (s.out.now, s.at) (a.new.out, a.result) (f.new.out, f.result) (name_texts k) _ a.ensures
+    (put-more (a.new.out, a.result) (r.new.out, r.result) (f.new.out, f.result) (rest_texts k zs) ((10 ∷ []) ∷ []) (rw c.of-n.ensures.0 at r.ensures) (put_one r.new.out r.result (10 ∷ []) f.new.out f.result f.ensures))
 
-pub put-line-spec : {M : Type 1} → statement M
-put-line-spec =
+pub put_line_spec : {M : Type 1} → statement M
+put_line_spec =
     tie.close
     (tie.spec
     of-requires

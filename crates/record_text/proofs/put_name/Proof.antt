@@ -7,136 +7,85 @@ use borrow.Author.Rules.{rules}
 use Rattle.record_text.proofs.put_name.Statement.{statement}
 use Rattle.record_text.proofs.put_name.Tie as tie
 
-enum_told : tie.Need-enum-told
+enum_told : tie.Need-enum_told-1
 enum_told c = search rules
 
-slice-aggregate-put-bytes : tie.Need-slice-aggregate-put-bytes
-slice-aggregate-put-bytes c = search rules
-
-put-bytes-requires : tie.Need-put-bytes-requires
+put-bytes-requires : tie.Need-put_bytes-requires
 put-bytes-requires c κs = search rules
 
-enum-told-2 : tie.Need-enum-told-2
+enum-told-2 : tie.Need-enum_told-in-Rectangle
 enum-told-2 c = search rules
 
-slice-aggregate-put-bytes-2 : tie.Need-slice-aggregate-put-bytes-2
-slice-aggregate-put-bytes-2 c = search rules
-
-put-bytes-requires-2 : tie.Need-put-bytes-requires-2
+put-bytes-requires-2 : tie.Need-put_bytes-requires-in-Rectangle
 put-bytes-requires-2 c κs = search rules
 
-enum-told-3 : tie.Need-enum-told-3
+enum-told-3 : tie.Need-enum_told-in-Ellipse
 enum-told-3 c = search rules
 
-slice-aggregate-put-bytes-3 : tie.Need-slice-aggregate-put-bytes-3
-slice-aggregate-put-bytes-3 c = search rules
-
-put-bytes-requires-3 : tie.Need-put-bytes-requires-3
+put-bytes-requires-3 : tie.Need-put_bytes-requires-in-Ellipse
 put-bytes-requires-3 c κs = search rules
 
-enum-told-4 : tie.Need-enum-told-4
+enum-told-4 : tie.Need-enum_told-in-Operator
 enum-told-4 c = search rules
 
-slice-aggregate-put-bytes-4 : tie.Need-slice-aggregate-put-bytes-4
-slice-aggregate-put-bytes-4 c = search rules
-
-put-bytes-requires-4 : tie.Need-put-bytes-requires-4
+put-bytes-requires-4 : tie.Need-put_bytes-requires-in-Operator
 put-bytes-requires-4 c κs = search rules
 
-enum-told-5 : tie.Need-enum-told-5
+enum-told-5 : tie.Need-enum_told-in-Slice
 enum-told-5 c = search rules
 
-slice-aggregate-put-bytes-5 : tie.Need-slice-aggregate-put-bytes-5
-slice-aggregate-put-bytes-5 c = search rules
-
-put-bytes-requires-5 : tie.Need-put-bytes-requires-5
+put-bytes-requires-5 : tie.Need-put_bytes-requires-in-Slice
 put-bytes-requires-5 c κs = search rules
 
-enum-told-6 : tie.Need-enum-told-6
+enum-told-6 : tie.Need-enum_told-in-Selection
 enum-told-6 c = search rules
 
-slice-aggregate-put-bytes-6 : tie.Need-slice-aggregate-put-bytes-6
-slice-aggregate-put-bytes-6 c = search rules
-
-put-bytes-requires-6 : tie.Need-put-bytes-requires-6
+put-bytes-requires-6 : tie.Need-put_bytes-requires-in-Selection
 put-bytes-requires-6 c κs = search rules
 
-enum-told-7 : tie.Need-enum-told-7
+enum-told-7 : tie.Need-enum_told-in-Unknown
 enum-told-7 c = search rules
 
-same_length : tie.Need-same-length
+same_length : tie.Need-shape_of-out-in-Scale
 same_length c = search rules
 
-returns : tie.Need-returns
-returns c = rw c.before.before.before.before.before.enum_told.given.1 (put_one c.before.before.before.before.before.before.before.before.args.out.now c.before.before.before.before.before.before.before.before.args.at (name_of K.Scale) c.before.before.put-bytes.new.0 c.before.before.put-bytes.result c.before.before.put-bytes.ensures)
+returns : tie.Need-returns-in-Scale
+returns c = rw c.in-Scale.is (put_one c.args.out.now c.args.at (name_of K.Scale) c.put_bytes.new.out c.put_bytes.result c.put_bytes.ensures)
 
-same-length-2 : tie.Need-same-length-2
+same-length-2 : tie.Need-shape_of-out-in-Rectangle
 same-length-2 c = search rules
 
-returns-2 : tie.Need-returns-2
-returns-2 c = rw c.before.before.before.before.before.enum-told2.given.1 (put_one c.before.before.before.before.before.before.before.before.args.out.now c.before.before.before.before.before.before.before.before.args.at (name_of K.Rectangle) c.before.before.put-bytes2.new.0 c.before.before.put-bytes2.result c.before.before.put-bytes2.ensures)
+returns-2 : tie.Need-returns-in-Rectangle
+returns-2 c = rw c.in-Rectangle.is (put_one c.args.out.now c.args.at (name_of K.Rectangle) c.put_bytes-in-Rectangle.new.out c.put_bytes-in-Rectangle.result c.put_bytes-in-Rectangle.ensures)
 
-same-length-3 : tie.Need-same-length-3
+same-length-3 : tie.Need-shape_of-out-in-Ellipse
 same-length-3 c = search rules
 
-returns-3 : tie.Need-returns-3
-returns-3 c = rw c.before.before.before.before.before.enum-told3.given.1 (put_one c.before.before.before.before.before.before.before.before.args.out.now c.before.before.before.before.before.before.before.before.args.at (name_of K.Ellipse) c.before.before.put-bytes3.new.0 c.before.before.put-bytes3.result c.before.before.put-bytes3.ensures)
+returns-3 : tie.Need-returns-in-Ellipse
+returns-3 c = rw c.in-Ellipse.is (put_one c.args.out.now c.args.at (name_of K.Ellipse) c.put_bytes-in-Ellipse.new.out c.put_bytes-in-Ellipse.result c.put_bytes-in-Ellipse.ensures)
 
-same-length-4 : tie.Need-same-length-4
+same-length-4 : tie.Need-shape_of-out-in-Operator
 same-length-4 c = search rules
 
-returns-4 : tie.Need-returns-4
-returns-4 c = rw c.before.before.before.before.before.enum-told4.given.1 (put_one c.before.before.before.before.before.before.before.before.args.out.now c.before.before.before.before.before.before.before.before.args.at (name_of K.Operator) c.before.before.put-bytes4.new.0 c.before.before.put-bytes4.result c.before.before.put-bytes4.ensures)
+returns-4 : tie.Need-returns-in-Operator
+returns-4 c = rw c.in-Operator.is (put_one c.args.out.now c.args.at (name_of K.Operator) c.put_bytes-in-Operator.new.out c.put_bytes-in-Operator.result c.put_bytes-in-Operator.ensures)
 
-same-length-5 : tie.Need-same-length-5
+same-length-5 : tie.Need-shape_of-out-in-Slice
 same-length-5 c = search rules
 
-returns-5 : tie.Need-returns-5
-returns-5 c = rw c.before.before.before.before.before.enum-told5.given.1 (put_one c.before.before.before.before.before.before.before.before.args.out.now c.before.before.before.before.before.before.before.before.args.at (name_of K.Slice) c.before.before.put-bytes5.new.0 c.before.before.put-bytes5.result c.before.before.put-bytes5.ensures)
+returns-5 : tie.Need-returns-in-Slice
+returns-5 c = rw c.in-Slice.is (put_one c.args.out.now c.args.at (name_of K.Slice) c.put_bytes-in-Slice.new.out c.put_bytes-in-Slice.result c.put_bytes-in-Slice.ensures)
 
-same-length-6 : tie.Need-same-length-6
+same-length-6 : tie.Need-shape_of-out-in-Selection
 same-length-6 c = search rules
 
-returns-6 : tie.Need-returns-6
-returns-6 c = rw c.before.before.before.before.before.enum-told6.given.1 (put_one c.before.before.before.before.before.before.before.before.args.out.now c.before.before.before.before.before.before.before.before.args.at (name_of K.Selection) c.before.before.put-bytes6.new.0 c.before.before.put-bytes6.result c.before.before.put-bytes6.ensures)
+returns-6 : tie.Need-returns-in-Selection
+returns-6 c = rw c.in-Selection.is (put_one c.args.out.now c.args.at (name_of K.Selection) c.put_bytes-in-Selection.new.out c.put_bytes-in-Selection.result c.put_bytes-in-Selection.ensures)
 
-returns-7 : tie.Need-returns-7
+returns-7 : tie.Need-returns-in-Unknown
 unfolding puts
-returns-7 c = rw c.enum-told7.given.1 refl
+returns-7 c = rw c.in-Unknown.is refl
 
-pub put-name-spec : {M : Type 1} → statement M
-put-name-spec =
-    tie.close
-    (tie.spec
-    enum_told
-    slice-aggregate-put-bytes
-    put-bytes-requires
-    enum-told-2
-    slice-aggregate-put-bytes-2
-    put-bytes-requires-2
-    enum-told-3
-    slice-aggregate-put-bytes-3
-    put-bytes-requires-3
-    enum-told-4
-    slice-aggregate-put-bytes-4
-    put-bytes-requires-4
-    enum-told-5
-    slice-aggregate-put-bytes-5
-    put-bytes-requires-5
-    enum-told-6
-    slice-aggregate-put-bytes-6
-    put-bytes-requires-6
-    enum-told-7
-    same_length
-    returns
-    same-length-2
-    returns-2
-    same-length-3
-    returns-3
-    same-length-4
-    returns-4
-    same-length-5
-    returns-5
-    same-length-6
-    returns-6
-    returns-7)
+pub put_name_spec : {M : Type 1} → statement M
+put_name_spec =
+    tie.close (tie.spec enum_told put-bytes-requires enum-told-2 put-bytes-requires-2 enum-told-3 put-bytes-requires-3 enum-told-4 put-bytes-requires-4 enum-told-5 put-bytes-requires-5 enum-told-6 put-bytes-requires-6 enum-told-7 same_length returns same-length-2 returns-2 same-length-3 returns-3 same-length-4 returns-4 same-length-5 returns-5 same-length-6 returns-6 returns-7)

@@ -47,7 +47,7 @@ module _ (a : tie.After-one-f invariant-loop decreases-loop) where
   coming f e =
       let r = room in
       let one : 8 - loop-of.loop-at.count ≡ suc (7 - loop-of.loop-at.count) = omega arith in
-      let t = a.loop-at-test.taken in
+      let t = a.loop-at-test.true in
       ap (λ (m : ℕ). regions_of m (drop at (bytes loop-of))) one
       ∙ to_come_more (7 - loop-of.loop-at.count) (drop at (bytes loop-of)) f (omega (arith, length-drop at (bytes loop-of))) (found f e)
 
@@ -120,7 +120,7 @@ loop-again c =
     let k = room a in
     let g = c.in-Region.g in
     let n = c.in-Region.n in
-    let h = l.loop-at.inv.0 in
+    let h = l.loop-at.invariant.0 in
     let u = length-drop l.loop-at.at (bytes l) in
     let next = coming a _ c.in-Region.is in
     let less : 7 - l.loop-at.count ≡ 8 - (l.loop-at.count + 1) = omega arith in

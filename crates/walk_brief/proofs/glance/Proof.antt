@@ -11,27 +11,27 @@ use borrow.Author.Rules.{rules}
 use Rattle.walk_brief.proofs.glance.Statement.{statement}
 use Rattle.walk_brief.proofs.glance.Tie as tie
 
-is-accepted-requires : tie.Need-is-accepted-requires
+is-accepted-requires : tie.Need-is_accepted-requires
 is-accepted-requires c κs = search rules
 
-returns : tie.Need-returns
+returns : tie.Need-returns-then-not-is_accepted
 returns c =
-    let j = c.before.before.args.job in
-    let n = sym c.before.is-accepted.ensures ∙ not-true _ c.if1.true in
+    let j = c.args.job in
+    let n = sym c.is_accepted.ensures ∙ not-true _ c.if-not-is_accepted.true in
     has_none _ _ _ ((full-empty j).1 (λ v. unsolved j v (sym (not_accepted j v n))))
 
-accepted : (c : tie.Else1) → accepted_job c.before.before.args.job ≡ true
-accepted c = sym c.before.is-accepted.ensures ∙ not-false _ c.if1.false
+accepted : (c : tie.Else-not-is_accepted) → accepted_job c.args.job ≡ true
+accepted c = sym c.is_accepted.ensures ∙ not-false _ c.if-not-is_accepted.false
 
-of-job-requires : tie.Need-of-job-requires
+of-job-requires : tie.Need-of_job-requires
 of-job-requires c κs = accepted c
 
-in-all-requires : tie.Need-in-all-requires
-in-all-requires c κs = ready _ _ (accepted c.before) c.of-job.ensures
+in-all-requires : tie.Need-in_all-requires
+in-all-requires c κs = ready _ _ (accepted c.before) c.of_job.ensures
 
-returns-2 : tie.Need-returns-2
-returns-2 c = whole-look _ _ _ c.before.of-job.ensures.same c.in_all.ensures
+returns-2 : tie.Need-returns
+returns-2 c = whole-look _ _ _ c.of_job.ensures.same c.in_all.ensures
 
-pub glance-spec : {M : Type 1} → statement M
-glance-spec =
+pub glance_spec : {M : Type 1} → statement M
+glance_spec =
     tie.close (tie.spec is-accepted-requires returns of-job-requires in-all-requires returns-2)

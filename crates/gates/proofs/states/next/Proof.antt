@@ -39,7 +39,7 @@ z-is : (c : tie.After-unturn-z) → c.unturn-z.result ≡ unturn (self c)
 z-is c = c.unturn-z.ensures ∙ ap (λ b. cond b (self c).t (back (back (self c).t))) (bare-is c)
 
 narrow-z : (c : tie.After-unturn-z) → Narrow c.unturn-z.result
-narrow-z c = subst Narrow (sym (z-is c)) (narrow_unturn (is_bare (self c)) (self c).t-1 c.requires.1)
+narrow-z c = subst Narrow (sym (z-is c)) (narrow_unturn (is_bare (self c)) (self c).t c.requires.1)
 
 p-is : (c : tie.After-plus-p) → c.plus-p.result ≡ plus (self c.before)
 p-is c = c.plus-p.ensures ∙ ap (λ z. (self c.before).u +ω z) (z-is c.before)

@@ -5,21 +5,21 @@ use borrow.Author.Rules.{rules}
 use Rattle.job_words.proofs.reading.disk.Statement.{statement}
 use Rattle.job_words.proofs.reading.disk.Tie as tie
 
-numbers-from-requires : tie.Need-numbers-from-requires
+numbers-from-requires : tie.Need-numbers_from-n-requires
 numbers-from-requires c κs = search rules
 
-disk-of-requires : tie.Need-disk-of-requires
+disk-of-requires : tie.Need-disk_of-requires
 disk-of-requires c κs = search rules
 
 empty-requires : tie.Need-empty-requires
 empty-requires c κs = search rules
 
-returns : tie.Need-returns
-returns c = means_is (ap disk (sym (listed-good c.before.before.before.numbers-from.result _ c.before.before.before.numbers-from.ensures c.before.if1.true))) c.disk-of.ensures
+returns : tie.Need-returns-then-n
+returns c = means_is (ap disk (sym (listed-good c.numbers_from-n.result _ c.numbers_from-n.ensures c.if-n.true))) c.disk_of.ensures
 
-returns-2 : tie.Need-returns-2
-returns-2 c = means_is (ap disk (sym (listed-none c.before.before.before.numbers-from.result _ c.before.before.before.numbers-from.ensures c.before.if1.false))) c.empty.ensures
+returns-2 : tie.Need-returns-else-n
+returns-2 c = means_is (ap disk (sym (listed-none c.numbers_from-n.result _ c.numbers_from-n.ensures c.if-n.false))) c.empty.ensures
 
-pub disk-spec : {M : Type 1} → statement M
-disk-spec =
+pub disk_spec : {M : Type 1} → statement M
+disk_spec =
     tie.close (tie.spec numbers-from-requires disk-of-requires empty-requires returns returns-2)

@@ -12,21 +12,21 @@ use Rattle.job_words.proofs.reading.disk_of.Tie as tie
 empty-requires : tie.Need-empty-requires
 empty-requires c κs = search rules
 
-returns : tie.Need-returns
-returns c = means_is (disk-many c.before.before.args.count c.before.before.args.t1 c.before.if1.true (omega arith)) c.empty.ensures
+returns : tie.Need-returns-then-count-ne1
+returns c = means_is (disk-many c.args.count c.args.t1 c.if-count-ne1.true (omega arith)) c.empty.ensures
 
-array-copy-out-disk-over : tie.Need-array-copy-out-disk-over
+array-copy-out-disk-over : tie.Need-bounds-numbers-0
 array-copy-out-disk-over c = search rules
 
-disk-over-requires : tie.Need-disk-over-requires
+disk-over-requires : tie.Need-disk_over-requires
 disk-over-requires c κs = search rules
 
-returns-2 : tie.Need-returns-2
+returns-2 : tie.Need-returns
 returns-2 c =
-    let h : SFits w64 (get_or c.before.before.before.args.t1 0 (pos 0)) = search rules in
-    means_is (disk-one c.before.before.before.args.count c.before.before.before.args.t1 c.before.before.if1.false (omega arith)) (rw (to_z-of_z h) at c.disk-over.ensures)
+    let h : SFits w64 (get_or c.args.t1 0 (pos 0)) = search rules in
+    means_is (disk-one c.args.count c.args.t1 c.if-count-ne1.false (omega arith)) (rw (to_z-of_z h) at c.disk_over.ensures)
 
-pub disk-of-spec : {M : Type 1} → statement M
-disk-of-spec =
+pub disk_of_spec : {M : Type 1} → statement M
+disk_of_spec =
     tie.close
     (tie.spec empty-requires returns array-copy-out-disk-over disk-over-requires returns-2)

@@ -7,5 +7,5 @@ use Rattle.job_words.proofs.reading.empty.Tie as tie
 returns : tie.Need-returns
 returns c = means_empty _ c.args.blank refl refl refl (lit≤ tt)
 
-pub empty-spec : {M : Type 1} → statement M
-empty-spec = tie.close (tie.spec returns)
+pub empty_spec : {M : Type 1} → statement M
+empty_spec = tie.close (tie.spec returns)

@@ -14,47 +14,34 @@ use Rattle.job_words.proofs.reading.last_place.Tie as tie
 within : (line : List ℕ) (at end : ℕ) → at ≤ length line → end ≡ word_end line at → (at ≤ end) × (end ≤ length line)
 within line at end h e = let b = run_end-within (is_byte 32 false) line at h in (omega arith, omega arith)
 
-word-end-requires : tie.Need-word-end-requires
+word-end-requires : tie.Need-word_end-end-requires
 word-end-requires c κs = search rules
 
-spaces-from-requires : tie.Need-spaces-from-requires
+spaces-from-requires : tie.Need-spaces_from-requires
 spaces-from-requires c κs = search rules
 
-returns : tie.Need-returns
-returns c = let s = c.before.before.before.before in last_not s.args.line.now s.args.at (rw (c.before.spaces-from.ensures ∙ ap (spaces_from s.args.line.now) c.before.before.word-end.ensures) at c.if1.true)
+returns : tie.Need-returns-then-spaces_from-line
+returns c = let s = c in last_not c.args.line.now c.args.at (rw (c.spaces_from.ensures ∙ ap (spaces_from c.args.line.now) c.word_end-end.ensures) at c.if-spaces_from-line.true)
 
-sub-place-of : tie.Need-overflow-sub-place-of
-sub-place-of c = (within c.before.before.before.before.args.line.now c.before.before.before.before.args.at c.before.before.word-end.result c.before.before.before.before.requires c.before.before.word-end.ensures).0
+sub-place-of : tie.Need-slice_bounds-place_of-count
+sub-place-of c = (within c.args.line.now c.args.at c.word_end-end.result c.requires c.word_end-end.ensures).0
 
-part-place-of-start : tie.Need-slice-bounds-place-of-start
-part-place-of-start c = (within c.before.before.before.before.args.line.now c.before.before.before.before.args.at c.before.before.word-end.result c.before.before.before.before.requires c.before.before.word-end.ensures).0
+part-place-of-start : tie.Need-slice_bounds-place_of-start
+part-place-of-start c = (within c.args.line.now c.args.at c.word_end-end.result c.requires c.word_end-end.ensures).0
 
-part-place-of-end : tie.Need-slice-bounds-place-of-end
-part-place-of-end c = (within c.before.before.before.before.args.line.now c.before.before.before.before.args.at c.before.before.word-end.result c.before.before.before.before.requires c.before.before.word-end.ensures).1
+part-place-of-end : tie.Need-slice_bounds-place_of-end
+part-place-of-end c = (within c.args.line.now c.args.at c.word_end-end.result c.requires c.word_end-end.ensures).1
 
-slice-aggregate-place-of : tie.Need-slice-aggregate-place-of
-slice-aggregate-place-of c = search rules
-
-place-of-requires : tie.Need-place-of-requires
+place-of-requires : tie.Need-place_of-requires
 place-of-requires c κs = search rules
 
-returns-2 : tie.Need-returns-2
+returns-2 : tie.Need-returns
 unfolding words_of
 returns-2 c =
-    let s = c.before.before.before.before.before.before.before in
-    let w = c.before.before.before.before.before in
-    rw w.word-end.ensures at c.place_of.ensures ∙ last_word s.args.line.now s.args.at (rw (c.before.before.before.before.spaces-from.ensures ∙ ap (spaces_from s.args.line.now) w.word-end.ensures) at c.before.before.before.if1.false)
+    let s = c in
+    let w = c in
+    rw c.word_end-end.ensures at c.place_of.ensures ∙ last_word c.args.line.now c.args.at (rw (c.spaces_from.ensures ∙ ap (spaces_from c.args.line.now) c.word_end-end.ensures) at c.if-spaces_from-line.false)
 
-pub last-place-spec : {M : Type 1} → statement M
-last-place-spec =
-    tie.close
-    (tie.spec
-    word-end-requires
-    spaces-from-requires
-    returns
-    sub-place-of
-    part-place-of-start
-    part-place-of-end
-    slice-aggregate-place-of
-    place-of-requires
-    returns-2)
+pub last_place_spec : {M : Type 1} → statement M
+last_place_spec =
+    tie.close (tie.spec word-end-requires spaces-from-requires returns sub-place-of part-place-of-start part-place-of-end place-of-requires returns-2)

@@ -8,19 +8,19 @@ use borrow.Author.Rules.{rules}
 use Rattle.job_words.proofs.reading.row_of.Statement.{statement}
 use Rattle.job_words.proofs.reading.row_of.Tie as tie
 
-run-end-requires : tie.Need-run-end-requires
+run-end-requires : tie.Need-run_end-end-requires
 run-end-requires c κs = search rules
 
-slice-aggregate-words-row : tie.Need-slice-aggregate-words-row
-slice-aggregate-words-row c = let l = c.before.before.before.args.line.now in let e = c.before.run_end.ensures in let b = run_end-within (is_byte 35 false) l 0 (omega arith) in sym (length-take-le c.before.run_end.result l (omega arith))
+slice-aggregate-words-row : tie.Need-slice_bounds-words_row-end
+slice-aggregate-words-row c = let l = c.args.line.now in let e = c.run_end-end.ensures in let b = run_end-within (is_byte 35 false) l 0 (omega arith) in sym (length-take-le c.run_end-end.result l (omega arith))
 
-words-row-requires : tie.Need-words-row-requires
+words-row-requires : tie.Need-words_row-requires
 words-row-requires c κs = search rules
 
 returns : tie.Need-returns
 unfolding row_of bare
-returns c = rw c.before.before.run_end.ensures at c.words_row.ensures
+returns c = rw c.run_end-end.ensures at c.words_row.ensures
 
-pub row-of-spec : {M : Type 1} → statement M
-row-of-spec =
+pub row_of_spec : {M : Type 1} → statement M
+row_of_spec =
     tie.close (tie.spec run-end-requires slice-aggregate-words-row words-row-requires returns)

@@ -16,57 +16,42 @@ use Rattle.job_words.proofs.reading.words_row.Tie as tie
 within : (line : List ℕ) (at end : ℕ) → at ≤ length line → end ≡ word_end line at → (at ≤ end) × (end ≤ length line)
 within line at end h e = let b = run_end-within (is_byte 32 false) line at h in (omega arith, omega arith)
 
-spaces-from-requires : tie.Need-spaces-from-requires
+spaces-from-requires : tie.Need-spaces_from-at-requires
 spaces-from-requires c κs = search rules
 
 empty-requires : tie.Need-empty-requires
 empty-requires c κs = search rules
 
-returns : tie.Need-returns
-returns c = let s = c.before.before.before.before in means_is (row-none s.args.line.now (spaces_from s.args.line.now 0) (rw c.before.before.spaces-from.ensures at c.before.if1.true)) c.empty.ensures
+returns : tie.Need-returns-then-line-at
+returns c = let s = c in means_is (row-none c.args.line.now (spaces_from c.args.line.now 0) (rw c.spaces_from-at.ensures at c.if-line-at.true)) c.empty.ensures
 
-word-end-requires : tie.Need-word-end-requires
+word-end-requires : tie.Need-word_end-end-requires
 word-end-requires c κs = search rules
 
-sub-place-of : tie.Need-overflow-sub-place-of
-sub-place-of c = (within c.before.before.before.before.args.line.now c.before.before.spaces-from.result c.word-end.result (le_of_lt c.before.if1.false) c.word-end.ensures).0
+sub-place-of : tie.Need-slice_bounds-place_of-count
+sub-place-of c = (within c.args.line.now c.spaces_from-at.result c.word_end-end.result (le_of_lt c.if-line-at.false) c.word_end-end.ensures).0
 
-part-place-of-start : tie.Need-slice-bounds-place-of-start
-part-place-of-start c = (within c.before.before.before.before.args.line.now c.before.before.spaces-from.result c.word-end.result (le_of_lt c.before.if1.false) c.word-end.ensures).0
+part-place-of-start : tie.Need-slice_bounds-place_of-start
+part-place-of-start c = (within c.args.line.now c.spaces_from-at.result c.word_end-end.result (le_of_lt c.if-line-at.false) c.word_end-end.ensures).0
 
-part-place-of-end : tie.Need-slice-bounds-place-of-end
-part-place-of-end c = (within c.before.before.before.before.args.line.now c.before.before.spaces-from.result c.word-end.result (le_of_lt c.before.if1.false) c.word-end.ensures).1
+part-place-of-end : tie.Need-slice_bounds-place_of-end
+part-place-of-end c = (within c.args.line.now c.spaces_from-at.result c.word_end-end.result (le_of_lt c.if-line-at.false) c.word_end-end.ensures).1
 
-slice-aggregate-place-of : tie.Need-slice-aggregate-place-of
-slice-aggregate-place-of c = search rules
-
-place-of-requires : tie.Need-place-of-requires
+place-of-requires : tie.Need-place_of-p-requires
 place-of-requires c κs = search rules
 
 named-requires : tie.Need-named-requires
-named-requires c κs = (within c.before.before.before.before.before.before.before.args.line.now c.before.before.before.before.before.spaces-from.result c.before.before.before.word-end.result (le_of_lt c.before.before.before.before.if1.false) c.before.before.before.word-end.ensures).1
+named-requires c κs = (within c.args.line.now c.spaces_from-at.result c.word_end-end.result (le_of_lt c.if-line-at.false) c.word_end-end.ensures).1
 
-returns-2 : tie.Need-returns-2
+returns-2 : tie.Need-returns
 unfolding words_of
 returns-2 c =
-    let l = c.before.before.before.before.before.before.before.before.args.line.now in
-    let w = c.before.before.before.before in
-    rw (← c.before.before.before.before.before.before.spaces-from.ensures) (means_is
-    (ap (λ (p : ℕ). named p l w.word-end.result) c.before.place_of.ensures ∙ ap (λ (e : ℕ). named (place_of (take (e - c.before.before.before.before.before.before.spaces-from.result) (drop c.before.before.before.before.before.before.spaces-from.result l)) names) l e) w.word-end.ensures
-    ∙ row-some l c.before.before.before.before.before.before.spaces-from.result c.before.before.before.before.before.if1.false) c.named.ensures)
+    let l = c.args.line.now in
+    let w = c in
+    rw (← c.spaces_from-at.ensures) (means_is
+    (ap (λ (p : ℕ). named p l c.word_end-end.result) c.place_of-p.ensures ∙ ap (λ (e : ℕ). named (place_of (take (e - c.spaces_from-at.result) (drop c.spaces_from-at.result l)) names) l e) c.word_end-end.ensures
+    ∙ row-some l c.spaces_from-at.result c.if-line-at.false) c.named.ensures)
 
-pub words-row-spec : {M : Type 1} → statement M
-words-row-spec =
-    tie.close
-    (tie.spec
-    spaces-from-requires
-    empty-requires
-    returns
-    word-end-requires
-    sub-place-of
-    part-place-of-start
-    part-place-of-end
-    slice-aggregate-place-of
-    place-of-requires
-    named-requires
-    returns-2)
+pub words_row_spec : {M : Type 1} → statement M
+words_row_spec =
+    tie.close (tie.spec spaces-from-requires empty-requires returns word-end-requires sub-place-of part-place-of-start part-place-of-end place-of-requires named-requires returns-2)

@@ -98,8 +98,8 @@ returns-3 c =
     let q = p k.before.before.before.before in
     let i = s q in
     let x = (r k.before.before.before.before).before.rounded-x.result in
-    let y = (r k).rounded-y.result in
-    let o = rw (x-is (r k), y-is (r k)) at c.whole.ensures.over in
+    let y = (r k.before.before.before.before).rounded-y.result in
+    let o = rw (x-is (r k.before.before.before.before), y-is (r k)) at c.whole.ensures.over in
     let t = rw (back w64 c.whole.type_inv) at c.beyond-t.ensures.0 in
     let e = rw (back w64 c.beyond-t.type_inv, c.conjugate.ensures) at c.combined.ensures in
     sharp_reaches i.args.region i.args.n i.args.u i.args.v i.args.e q.before.product-f.result q.product-g.result i.args.d c.lesser.result x y c.whole.result c.beyond-t.result

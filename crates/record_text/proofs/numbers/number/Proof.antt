@@ -11,16 +11,16 @@ signed2-requires : tie.Need-signed2-requires
 signed2-requires c κs = search rules
 
 signed4-requires : tie.Need-signed4-requires
-signed4-requires c κs = let p = c.before.before.before.requires in let e = four _ p.0 (p.0.wide c.before.if1.true) c.if2.false in let h = p.1 in omega arith
+signed4-requires c κs = let p = c.requires in let e = four _ p.0 (p.0.wide c.if-f.true) c.if-size-eq2.false in let h = p.1 in omega arith
 
-returns : tie.Need-returns
-returns c = back w64 c.signed2.type-inv ∙ c.signed2.ensures ∙ signed_is c.before.before.before.before.args.f _ _ 2 c.before.before.if1.true c.before.if2.true
+returns : tie.Need-returns-then-size-eq2
+returns c = back w64 c.signed2.type_inv ∙ c.signed2.ensures ∙ signed_is c.args.f _ _ 2 c.if-f.true c.if-size-eq2.true
 
-returns-2 : tie.Need-returns-2
+returns-2 : tie.Need-returns-else-size-eq2
 returns-2 c =
-    let s = c.before.before.before.before in
-    let p = s.requires in
-    back w64 c.signed4.type-inv ∙ c.signed4.ensures ∙ signed_is s.args.f _ _ 4 c.before.before.if1.true (four _ p.0 (p.0.wide c.before.before.if1.true) c.before.if2.false)
+    let s = c in
+    let p = c.requires in
+    back w64 c.signed4.type_inv ∙ c.signed4.ensures ∙ signed_is c.args.f _ _ 4 c.if-f.true (four _ p.0 (p.0.wide c.if-f.true) c.if-size-eq2.false)
 
 unsigned1-requires : tie.Need-unsigned1-requires
 unsigned1-requires c κs = search rules
@@ -31,21 +31,21 @@ unsigned2-requires c κs = search rules
 unsigned4-requires : tie.Need-unsigned4-requires
 unsigned4-requires c κs = search rules
 
-returns-3 : tie.Need-returns-3
-returns-3 c = back w64 c.unsigned1.type-inv ∙ c.unsigned1.ensures ∙ unsigned_is c.before.before.before.before.args.f _ _ 1 c.before.before.if1.false c.before.match.keys1
+returns-3 : tie.Need-returns-in-1
+returns-3 c = back w64 c.unsigned1.type_inv ∙ c.unsigned1.ensures ∙ unsigned_is c.args.f _ _ 1 c.if-f.false c.in-1.is
 
-returns-4 : tie.Need-returns-4
-returns-4 c = back w64 c.unsigned2.type-inv ∙ c.unsigned2.ensures ∙ unsigned_is c.before.before.before.before.args.f _ _ 2 c.before.before.if1.false c.before.match.keys2
+returns-4 : tie.Need-returns-in-2
+returns-4 c = back w64 c.unsigned2.type_inv ∙ c.unsigned2.ensures ∙ unsigned_is c.args.f _ _ 2 c.if-f.false c.in-2.is
 
-returns-5 : tie.Need-returns-5
+returns-5 : tie.Need-returns-in_default
 returns-5 c =
-    let s = c.before.before.before.before in
-    let r = s.requires.0 in
-    let m = c.before.match.rest in
-    back w64 c.unsigned4.type-inv ∙ c.unsigned4.ensures ∙ unsigned_is s.args.f _ _ 4 c.before.before.if1.false (four s.args.f r (two s.args.f r m.0.1) m.1)
+    let s = c in
+    let r = c.requires.0 in
+    let m = c.in_default.in_default-own.rest in
+    back w64 c.unsigned4.type_inv ∙ c.unsigned4.ensures ∙ unsigned_is c.args.f _ _ 4 c.if-f.false (four c.args.f r (two c.args.f r m.0.1) m.1)
 
-pub number-spec : {M : Type 1} → statement M
-number-spec =
+pub number_spec : {M : Type 1} → statement M
+number_spec =
     tie.close
     (tie.spec
     signed2-requires

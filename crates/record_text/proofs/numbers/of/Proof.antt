@@ -15,7 +15,7 @@ use Rattle.record_text.specs.Fields.{Reads, AllRead, sizes, kind_reads, kind_siz
 use Rattle.record_text.proofs.numbers.of.Statement.{statement}
 use Rattle.record_text.proofs.numbers.of.Tie as tie
 
-abbrev invariant-loop : tie.invariant-loop
+abbrev invariant-loop : tie.invariant-loop-i
 invariant-loop s form count values₀ at₀ i₀ values at i =
     (i ≤ count)
     × (length values ≡ 8)
@@ -23,39 +23,39 @@ invariant-loop s form count values₀ at₀ i₀ values at i =
     × (at + sizes (drop i (take count form.fields)) ≤ length s)
     × (take i values ++ numbers_at (drop i (take count form.fields)) s at ≡ numbers_at (take count form.fields) s 0)
 
-abbrev decreases-loop : tie.decreases-loop
+abbrev decreases-loop : tie.decreases-loop-i
 decreases-loop s form count values₀ at₀ i₀ values at i = count - i
 
 -- the fields that the form has
-module _ (c : tie.After-form-of invariant-loop decreases-loop) where
+module _ (c : tie.After-form_of-form invariant-loop decreases-loop) where
   abbrev fields : List Field
-  fields = take c.form_of.result.count c.form_of.result.fields
+  fields = take c.form_of-form.result.count c.form_of-form.result.fields
 
-  is : fields ≡ fields_of c.before.before.args.kind
-  is = c.form_of.ensures.0
+  is : fields ≡ fields_of c.args.kind
+  is = c.form_of-form.ensures.0
 
-  long : length fields ≡ c.form_of.result.count
-  long = ap length is ∙ sym c.form_of.ensures.1
+  long : length fields ≡ c.form_of-form.result.count
+  long = ap length is ∙ sym c.form_of-form.ensures.1
 
-  few : c.form_of.result.count < 9
-  few = c.form_of.ensures.2
+  few : c.form_of-form.result.count < 9
+  few = c.form_of-form.ensures.2
 
 -- in the loop there is a field
-module _ (c : tie.In-loop invariant-loop decreases-loop) where
-  abbrev formed : tie.After-form-of invariant-loop decreases-loop
+module _ (c : tie.In-loop-i invariant-loop decreases-loop) where
+  abbrev formed : tie.After-form_of-form invariant-loop decreases-loop
   formed = c.before.before
 
   abbrev i : ℕ
-  i = c.before.loop.i
+  i = c.loop-i.i
 
   abbrev field : Field
-  field = get_or formed.form_of.result.fields i (u 0)
+  field = get_or formed.form_of-form.result.fields i (u 0)
 
   here : i < length (fields formed)
-  here = let l = long formed in let h = c.loop-test.true in omega arith
+  here = let l = long formed in let h = c.loop-i-test.true in omega arith
 
   same : get_or (fields formed) i (u 0) ≡ field
-  same = get_or-take _ _ _ _ c.loop-test.true
+  same = get_or-take _ _ _ _ c.loop-i-test.true
 
   reads : Reads field
   reads = subst Reads same (reads_at (fields formed) i (u 0) (subst AllRead (sym (is formed)) (kind_reads _)) here)
@@ -63,75 +63,75 @@ module _ (c : tie.In-loop invariant-loop decreases-loop) where
   sized : sizes (drop i (fields formed)) ≡ field.size + sizes (drop (i + 1) (fields formed))
   sized = sizes-next (fields formed) i (u 0) here ∙ ap (λ (f : Field). f.size + sizes (drop (i + 1) (fields formed))) same
 
-form-of-requires : tie.Need-form-of-requires invariant-loop decreases-loop
+form-of-requires : tie.Need-form_of-form-requires invariant-loop decreases-loop
 form-of-requires c κs = tt
 
-loop-holds : tie.Need-loop-init invariant-loop decreases-loop
-loop-holds c = (omega arith, refl, omega arith, (let e = ap sizes (is c) ∙ kind_sizes _ in let h = c.before.before.requires in omega arith), refl)
+loop-holds : tie.Need-loop-i-init invariant-loop decreases-loop
+loop-holds c = (omega arith, refl, omega arith, (let e = ap sizes (is c) ∙ kind_sizes _ in let h = c.requires in omega arith), refl)
 
-mul-f : tie.Need-overflow-mul-f invariant-loop decreases-loop
-mul-f c = let f = few (formed c) in let h = c.loop-test.true in omega arith
+mul-f : tie.Need-offset_bounds-form-i invariant-loop decreases-loop
+mul-f c = let f = few (formed c) in let h = c.loop-i-test.true in omega arith
 
-element-copy-out-f : tie.Need-element-copy-out-f invariant-loop decreases-loop
-element-copy-out-f c = let f = few (formed c) in let h = c.loop-test.true in omega arith
+element-copy-out-f : tie.Need-bounds-form-i invariant-loop decreases-loop
+element-copy-out-f c = let f = few (formed c) in let h = c.loop-i-test.true in omega arith
 
 number-requires : tie.Need-number-requires invariant-loop decreases-loop
-number-requires c κs = let l = c.before in (reads l, (let e = sized l in let h = l.before.loop.invariant.3 in omega arith))
+number-requires c κs = let l = c.before in (reads l, (let e = sized l in let h = c.loop-i.invariant.3 in omega arith))
 
-mul-values : tie.Need-overflow-mul-values invariant-loop decreases-loop
-mul-values c = let l = c.before.before in let f = few (formed l) in let h = l.loop-test.true in omega arith
+mul-values : tie.Need-offset_bounds-values-i invariant-loop decreases-loop
+mul-values c = let l = c.before.before in let f = few (formed l) in let h = c.loop-i-test.true in omega arith
 
-array-set-from-values : tie.Need-array-set-from-values invariant-loop decreases-loop
-array-set-from-values c = let l = c.before.before in let f = few (formed l) in let h = l.loop-test.true in omega arith
+array-set-from-values : tie.Need-bounds-values-i invariant-loop decreases-loop
+array-set-from-values c = let l = c.before.before in let f = few (formed l) in let h = c.loop-i-test.true in omega arith
 
-add_at : tie.Need-overflow-add-at invariant-loop decreases-loop
+add_at : tie.Need-overflow_add-at invariant-loop decreases-loop
 add_at c =
     let l = c.before.before.before in
     let f = few (formed l) in
-    let h = l.loop-test.true in
+    let h = c.loop-i-test.true in
     let m = (reads l).most in
-    let a = l.before.loop.invariant.2 in
+    let a = c.loop-i.invariant.2 in
     omega arith
 
-add-i : tie.Need-overflow-add-i invariant-loop decreases-loop
-add-i c = let l = c.before.before.before in let f = few (formed l) in let h = l.loop-test.true in omega arith
+add-i : tie.Need-overflow_add-i invariant-loop decreases-loop
+add-i c = let l = c.before.before.before in let f = few (formed l) in let h = c.loop-i-test.true in omega arith
 
-loop-less : tie.Need-loop-smaller invariant-loop decreases-loop
-loop-less c = let h = c.before.before.before.loop-test.true in omega arith
+loop-less : tie.Need-loop-i-smaller invariant-loop decreases-loop
+loop-less c = let h = c.loop-i-test.true in omega arith
 
-loop-again : tie.Need-loop-preserved invariant-loop decreases-loop
+loop-again : tie.Need-loop-i-preserved invariant-loop decreases-loop
 loop-again c =
-    let n = c.before in
+    let n = c in
     let l = n.before.before in
     let t = l.before in
-    let f = formed l in
+    let f = formed l.before in
     let s = f.before.before.args.s.now in
-    let h = l.loop-test.true in
+    let h = c.loop-i-test.true in
     let k = few f in
-    let w = t.loop.invariant.1 in
+    let w = c.loop-i.invariant.1 in
     let next =
-    subst (λ (g : Field). take (i l + 1) (set t.loop.values (i l) (number_at g s t.loop.at)) ++ numbers_at (drop (i l + 1) (fields f)) s (t.loop.at + g.size) ≡ numbers_at (fields f) s 0) (same l)
-    (numbers-next (fields f) (i l) (u 0) (here l) s t.loop.at t.loop.values _ (omega arith) t.loop.invariant.4) in (
+    subst (λ (g : Field). take (i l.before + 1) (set c.loop-i.values (i l) (number_at g s c.loop-i.at)) ++ numbers_at (drop (i l + 1) (fields f)) s (c.loop-i.at + g.size) ≡ numbers_at (fields f) s 0) (same l)
+    (numbers-next (fields f) (i l) (u 0) (here l) s c.loop-i.at c.loop-i.values _ (omega arith) c.loop-i.invariant.4) in (
       omega arith,
-      length-set t.loop.values (i l) _ ∙ w,
-      (let m = (reads l).most in let a = t.loop.invariant.2 in omega arith),
-      (let e = sized l in let b = t.loop.invariant.3 in omega arith),
-      rw (back w64 n.number.type-inv, n.number.ensures) next,
+      length-set c.loop-i.values (i l) _ ∙ w,
+      (let m = (reads l).most in let a = c.loop-i.invariant.2 in omega arith),
+      (let e = sized l in let b = c.loop-i.invariant.3 in omega arith),
+      rw (back w64 c.number.type_inv, c.number.ensures) next,
     )
 
 returns : tie.Need-returns invariant-loop decreases-loop
 returns c =
-    let t = c.before in
+    let t = c in
     let f = t.before in
-    let l = long f in
-    let h = c.loop-test.false in
-    let b = t.loop.invariant.0 in
-    let k = few f in
-    let e : f.form_of.result.count ≡ t.loop.i = omega arith in (
-      ap (λ (n : ℕ). take n t.loop.values) e ∙ numbers-done (fields f) t.loop.i _ t.loop.at t.loop.values _ (omega arith) t.loop.invariant.4
-          ∙ ap (λ (l : List Field). numbers_at l f.before.before.args.s.now 0) (is f),
+    let l = long f.before in
+    let h = c.loop-i-test.false in
+    let b = c.loop-i.invariant.0 in
+    let k = few f.before in
+    let e : c.form_of-form.result.count ≡ c.loop-i.i = omega arith in (
+      ap (λ (n : ℕ). take n c.loop-i.values) e ∙ numbers-done (fields f) c.loop-i.i _ c.loop-i.at c.loop-i.values _ (omega arith) c.loop-i.invariant.4
+          ∙ ap (λ (l : List Field). numbers_at l c.args.s.now 0) (is f),
       omega arith,
-      t.loop.invariant.1,
+      c.loop-i.invariant.1,
     )
 
 pub of_spec : {M : Type 1} → statement M

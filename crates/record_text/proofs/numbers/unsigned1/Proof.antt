@@ -8,7 +8,7 @@ use borrow.Author.Rules.{rules}
 use Rattle.record_text.proofs.numbers.unsigned1.Statement.{statement}
 use Rattle.record_text.proofs.numbers.unsigned1.Tie as tie
 
-shared-slice-read-wide : tie.Need-shared-slice-read-wide
+shared-slice-read-wide : tie.Need-bounds-s-k
 shared-slice-read-wide c = search rules
 
 wide-requires : tie.Need-wide-requires
@@ -16,7 +16,7 @@ wide-requires c κs = search rules
 
 returns : tie.Need-returns
 unfolding number_at
-returns c = back w64 c.wide.type-inv ∙ c.wide.ensures ∙ ap pos (sym (one c.before.before.before.args.s.now c.before.before.before.args.k))
+returns c = back w64 c.wide.type_inv ∙ c.wide.ensures ∙ ap pos (sym (one c.args.s.now c.args.k))
 
-pub unsigned1-spec : {M : Type 1} → statement M
-unsigned1-spec = tie.close (tie.spec shared-slice-read-wide wide-requires returns)
+pub unsigned1_spec : {M : Type 1} → statement M
+unsigned1_spec = tie.close (tie.spec shared-slice-read-wide wide-requires returns)

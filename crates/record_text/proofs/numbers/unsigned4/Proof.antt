@@ -8,15 +8,15 @@ use borrow.Author.Rules.{rules}
 use Rattle.record_text.proofs.numbers.unsigned4.Statement.{statement}
 use Rattle.record_text.proofs.numbers.unsigned4.Tie as tie
 
-u32-at-requires : tie.Need-u32-at-requires
+u32-at-requires : tie.Need-u32_at-requires
 u32-at-requires c κs = search rules
 
-cast-result : tie.Need-overflow-cast-result
+cast-result : tie.Need-overflow_cast-result
 cast-result c = search rules
 
 returns : tie.Need-returns
 unfolding number_at
-returns c = to_z_pos w64 {n = c.u32-at.result} (omega (arith, c.u32-at.type-inv)) ∙ ap pos c.u32-at.ensures
+returns c = to_z_pos w64 {n = c.u32_at.result} (omega (arith, c.u32_at.type_inv)) ∙ ap pos c.u32_at.ensures
 
-pub unsigned4-spec : {M : Type 1} → statement M
-unsigned4-spec = tie.close (tie.spec u32-at-requires cast-result returns)
+pub unsigned4_spec : {M : Type 1} → statement M
+unsigned4_spec = tie.close (tie.spec u32-at-requires cast-result returns)

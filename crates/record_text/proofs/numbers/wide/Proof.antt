@@ -5,7 +5,7 @@ use borrow.Author.Rules.{rules}
 use Rattle.record_text.proofs.numbers.wide.Statement.{statement}
 use Rattle.record_text.proofs.numbers.wide.Tie as tie
 
-cast-result : tie.Need-overflow-cast-result
+cast-result : tie.Need-overflow_cast-result
 cast-result c = search rules
 
 returns : tie.Need-returns

@@ -82,7 +82,7 @@ returns-3 c =
     let b = c in
     let s = b.before in
     let e = lt-ltb (at s.before.before.before.before.before) (length (line s.before.before.before.before.before)) (some s.before.before.before.before.before).if-line-at.false in
-    let f = le-ltb (next_from (line s) (at s)) (length (line s)) (rw (next-is s) at b.if-spaces_from-line.false) in
+    let f = le-ltb (next_from (line s.before.before.before.before.before) (at s.before.before.before.before.before)) (length (line s.before.before.before.before.before)) (rw (next-is s.before.before.before.before.before) at b.if-spaces_from-line.false) in
     let u = c.unhex.ensures in
     (rw (e, f, ← s.word_end-end.ensures) u.0, rw (e, f, ← s.word_end-end.ensures) u.1)
 
