@@ -3,7 +3,7 @@ use Rattle.std.proofs.Common.{lt_of_lt_of_le, lit≤, to_z-of_z, w16, SFits, rul
 use Rattle.console_replies.proofs.short.Statement.{statement}
 use Rattle.console_replies.proofs.short.Tie as tie
 
-cast-result : tie.Need-overflow-cast-result
+cast-result : tie.Need-overflow_cast-result
 cast-result c =
     let h : SFits w16 c.args.z = search rules in
     rw (to_z-of_z h) (record { sfits = lt_of_lt_of_le h.sfits (lit≤ tt) })
@@ -11,5 +11,5 @@ cast-result c =
 returns : tie.Need-returns
 returns c = search rules
 
-pub short-spec : {M : Type 1} → statement M
-short-spec = tie.close (tie.spec cast-result returns)
+pub short_spec : {M : Type 1} → statement M
+short_spec = tie.close (tie.spec cast-result returns)

@@ -7,40 +7,40 @@ use borrow.Author.Rules.{rules}
 use Rattle.gate_qasm.proofs.read.Statement.{statement}
 use Rattle.gate_qasm.proofs.read.Tie as tie
 
-is-text-requires : tie.Need-is-text-requires
+is-text-requires : tie.Need-is_text-requires
 is-text-requires c κs = search rules
 
-returns : tie.Need-returns
+returns : tie.Need-returns-then-not-is_text
 returns c =
-    let s = c.before.before.before.before in
-    read_none s.args.text.now s.args.word.now (sym c.before.is-text.ensures ∙ not-true _ c.if1.true)
+    let s = c in
+    read_none c.args.text.now c.args.word.now (sym c.is_text.ensures ∙ c.if-not-is_text.true)
 
 -- past the first test the text is one
-good : (c : tie.Else1) → is_text c.before.before.before.before.args.text.now ≡ true
-good c = sym c.before.is-text.ensures ∙ not-false _ c.if1.false
+good : (c : tie.Else-not-is_text) → is_text c.args.text.now ≡ true
+good c = sym c.is_text.ensures ∙ c.if-not-is_text.false
 
-put-word-requires : tie.Need-put-word-requires
+put-word-requires : tie.Need-put_word-whole-requires
 put-word-requires c κs = search rules
 
-same_length : tie.Need-same-length
+same_length : tie.Need-shape_of-word-then-not-whole
 same_length c = search rules
 
-returns-2 : tie.Need-returns-2
+returns-2 : tie.Need-returns-then-not-whole
 returns-2 c =
-    let p = c.before.before.before in
+    let p = c in
     let e = p.before.before in
     let s = e.before.before.before.before in
-    read-full s.args.text.now s.args.word.now (good e) (sym p.put_word.ensures.0 ∙ not-true _ c.if2.true) p.put_word.ensures.1
+    read-full c.args.text.now c.args.word.now (good e) (sym c.put_word-whole.ensures.0 ∙ not-true _ c.if-not-whole.true) c.put_word-whole.ensures.1
 
-same-length-2 : tie.Need-same-length-2
+same-length-2 : tie.Need-shape_of-word
 same-length-2 c = search rules
 
-returns-3 : tie.Need-returns-3
+returns-3 : tie.Need-returns
 returns-3 c =
-    let p = c.before.before.before in
+    let p = c in
     let e = p.before.before in
     let s = e.before.before.before.before in
-    read_done s.args.text.now s.args.word.now (good e) (sym p.put_word.ensures.0 ∙ not-false _ c.if2.false) p.put_word.ensures.1
+    read_done c.args.text.now c.args.word.now (good e) (sym c.put_word-whole.ensures.0 ∙ not-false _ c.if-not-whole.false) c.put_word-whole.ensures.1
 
 pub read_spec : {M : Type 1} → statement M
 read_spec =

@@ -10,47 +10,47 @@ use borrow.Author.Rules.{rules}
 use Rattle.gate_qasm.proofs.write.Statement.{statement}
 use Rattle.gate_qasm.proofs.write.Tie as tie
 
-are-letters-requires : tie.Need-are-letters-requires
+are-letters-requires : tie.Need-are_letters-letters-requires
 are-letters-requires c κs = search rules
 
-lines-of-requires : tie.Need-lines-of-requires
+lines-of-requires : tie.Need-lines_of-n-requires
 lines-of-requires c κs = search rules
 
-returns : tie.Need-returns
+returns : tie.Need-returns-then-not-letters
 returns c =
-    let s = c.before.before.before.before.before in
-    write_none s.args.word.now s.args.text.now (sym c.before.before.are-letters.ensures ∙ not-true _ c.if1.true)
+    let s = c in
+    write_none c.args.word.now c.args.text.now (sym c.are_letters-letters.ensures ∙ c.if-not-letters.true)
 
 -- past the first test the word is letters
-good : (c : tie.Else1) → are_letters c.before.before.before.before.before.args.word.now ≡ true
-good c = sym c.before.before.are-letters.ensures ∙ not-false _ c.if1.false
+good : (c : tie.Else-not-letters) → are_letters c.args.word.now ≡ true
+good c = sym c.are_letters-letters.ensures ∙ c.if-not-letters.false
 
-returns-2 : tie.Need-returns-2
+returns-2 : tie.Need-returns-then-not-fits
 returns-2 c =
-    let n = c.before.before in
-    let s = c.before.before.before.before.before.before in
-    write_full s.args.word.now s.args.text.now (good c.before) n.lines_of.result n.lines_of.ensures (leb-false _ _ (not-true _ c.if2.true))
+    let n = c in
+    let s = c in
+    write_full c.args.word.now c.args.text.now (good c.before) c.lines_of-n.result c.lines_of-n.ensures (leb-false _ _ (not-true _ c.if-not-fits.true))
 
 -- past the second the text has room
-room : (c : tie.Else2) → c.before.before.lines_of.result ≤ length c.before.before.before.before.before.before.args.text.now / 8
-room c = leb-true _ _ (not-false _ c.if2.false)
+room : (c : tie.Else-not-fits) → c.lines_of-n.result ≤ length c.args.text.now / 8
+room c = leb-true _ _ (not-false _ c.if-not-fits.false)
 
-put-lines-requires : tie.Need-put-lines-requires
-put-lines-requires c κs = let h = room c.before in omega (arith, c.before.before.before.lines_of.ensures)
+put-lines-requires : tie.Need-put_lines-requires
+put-lines-requires c κs = let h = room c.before in omega (arith, c.lines_of-n.ensures)
 
-mul-size : tie.Need-overflow-mul-size
+mul-size : tie.Need-overflow_mul-size
 mul-size c = let h = room c.before.before.before.before in omega arith
 
-same_length : tie.Need-same-length
+same_length : tie.Need-shape_of-text
 same_length c = search rules
 
-returns-3 : tie.Need-returns-3
+returns-3 : tie.Need-returns
 returns-3 c =
-    let p = c.before.before in
+    let p = c in
     let e = p.before.before in
     let n = e.before.before in
     let s = e.before.before.before.before.before.before in
-    write_done s.args.word.now s.args.text.now (good e.before) n.lines_of.result n.lines_of.ensures (room e) p.put-lines.ensures
+    write_done c.args.word.now c.args.text.now (good e.before) c.lines_of-n.result c.lines_of-n.ensures (room e) c.put_lines.ensures
 
 pub write_spec : {M : Type 1} → statement M
 write_spec =

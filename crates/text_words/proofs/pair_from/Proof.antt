@@ -23,7 +23,7 @@ module _ (c : tie.After-wide_word_at-first) where
 
 module _ (c : tie.After-wide_word_at-second) where
   abbrev one : tie.After-wide_word_at-first
-  one = c.before.before.before.before
+  one = c.before.before
 
   abbrev p : ℤ
   p = meaning c.in-Value.p

@@ -17,11 +17,11 @@ is-accepted-requires c κs = search rules
 returns : tie.Need-returns-then-not-is_accepted
 returns c =
     let j = c.args.job in
-    let n = sym c.is_accepted.ensures ∙ not-true _ c.if-not-is_accepted.true in
+    let n = sym c.is_accepted.ensures ∙ c.if-not-is_accepted.true in
     has_none _ _ _ ((full-empty j).1 (λ v. unsolved j v (sym (not_accepted j v n))))
 
 accepted : (c : tie.Else-not-is_accepted) → accepted_job c.args.job ≡ true
-accepted c = sym c.is_accepted.ensures ∙ not-false _ c.if-not-is_accepted.false
+accepted c = sym c.is_accepted.ensures ∙ c.if-not-is_accepted.false
 
 of-job-requires : tie.Need-of_job-requires
 of-job-requires c κs = accepted c

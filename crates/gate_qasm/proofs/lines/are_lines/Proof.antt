@@ -11,68 +11,68 @@ use Rattle.gate_qasm.proofs.Reading.{lines_none, lines_not, lines_less}
 use Rattle.gate_qasm.proofs.lines.are_lines.Statement.{statement}
 use Rattle.gate_qasm.proofs.lines.are_lines.Tie as tie
 
-abbrev invariant-loop : tie.invariant-loop
+abbrev invariant-loop : tie.invariant-loop-i
 invariant-loop text i₀ i = (i ≤ length text / 8) × (are_lines i text ≡ are_lines (length text / 8) text)
 
-abbrev decreases-loop : tie.decreases-loop
+abbrev decreases-loop : tie.decreases-loop-i
 decreases-loop text i₀ i = i
 
-module _ (c : tie.After-is-line invariant-loop decreases-loop) where
-  abbrev here : tie.At-loop invariant-loop decreases-loop
+module _ (c : tie.After-is_line invariant-loop decreases-loop) where
+  abbrev here : tie.At-loop-i invariant-loop decreases-loop
   here = c.before.before.before
 
   abbrev text : List ℕ
-  text = here.before.before.args.text.now
+  text = here.args.text.now
 
   abbrev i : ℕ
-  i = here.loop.i
+  i = here.loop-i.i
 
   -- the part that was tested is a line's
-  told : c.is-line.result ≡ is_line (line_at (i - 1) text)
-  told = let e : 8 * (i - 1) + 8 - 8 * (i - 1) ≡ 8 = omega arith in c.is-line.ensures ∙ ap (λ (n : ℕ). is_line (take n (drop (8 * (i - 1)) text))) e
+  told : c.is_line.result ≡ is_line (line_at (i - 1) text)
+  told = let e : 8 * (i - 1) + 8 - 8 * (i - 1) ≡ 8 = omega arith in c.is_line.ensures ∙ ap (λ (n : ℕ). is_line (take n (drop (8 * (i - 1)) text))) e
 
-loop-holds : tie.Need-loop-init invariant-loop decreases-loop
+loop-holds : tie.Need-loop-i-init invariant-loop decreases-loop
 loop-holds c = (le_of_eq refl, refl)
 
-sub-i : tie.Need-overflow-sub-i invariant-loop decreases-loop
+sub-i : tie.Need-overflow_sub-i invariant-loop decreases-loop
 sub-i c = search rules
 
-mul_at : tie.Need-overflow-mul-at invariant-loop decreases-loop
+mul_at : tie.Need-overflow_mul-at invariant-loop decreases-loop
 mul_at c = search rules
 
-add-end : tie.Need-overflow-add-end invariant-loop decreases-loop
+add-end : tie.Need-overflow_add-end invariant-loop decreases-loop
 add-end c = search rules
 
-sub-is-line : tie.Need-overflow-sub-is-line invariant-loop decreases-loop
+sub-is-line : tie.Need-slice_bounds-is_line-count invariant-loop decreases-loop
 sub-is-line c = search rules
 
-part-is-line-start : tie.Need-slice-bounds-is-line-start invariant-loop decreases-loop
+part-is-line-start : tie.Need-slice_bounds-is_line-start invariant-loop decreases-loop
 part-is-line-start c = search rules
 
-part-is-line-end : tie.Need-slice-bounds-is-line-end invariant-loop decreases-loop
+part-is-line-end : tie.Need-slice_bounds-is_line-end invariant-loop decreases-loop
 part-is-line-end c = search rules
 
-is-line-requires : tie.Need-is-line-requires invariant-loop decreases-loop
+is-line-requires : tie.Need-is_line-requires invariant-loop decreases-loop
 is-line-requires c κs = search rules
 
-returns : tie.Need-returns invariant-loop decreases-loop
+returns : tie.Need-returns-then-not-is_line invariant-loop decreases-loop
 returns c =
     let k = c.before in
-    sym (lines_not (text k) (i k) (omega arith) (sym (told k) ∙ not-true _ c.if1.true)) ∙ (here k).loop.invariant.1
+    sym (lines_not (text k) (i k) (omega arith) (sym (told k) ∙ c.if-not-is_line.true)) ∙ (here k).loop-i.invariant.1
 
-loop-less : tie.Need-loop-smaller invariant-loop decreases-loop
+loop-less : tie.Need-loop-i-smaller invariant-loop decreases-loop
 loop-less c = search rules
 
-loop-again : tie.Need-loop-preserved invariant-loop decreases-loop
+loop-again : tie.Need-loop-i-preserved invariant-loop decreases-loop
 loop-again c =
     let k = c.before in
-    (omega arith, sym (lines_less (text k) (i k) (omega arith) (sym (told k) ∙ not-false _ c.if1.false)) ∙ (here k).loop.invariant.1)
+    (omega arith, sym (lines_less (text k) (i k) (omega arith) (sym (told k) ∙ c.if-not-is_line.false)) ∙ (here k).loop-i.invariant.1)
 
-returns-2 : tie.Need-returns-2 invariant-loop decreases-loop
-returns-2 c = sym (lines_none _ _ (omega arith)) ∙ c.before.loop.invariant.1
+returns-2 : tie.Need-returns invariant-loop decreases-loop
+returns-2 c = sym (lines_none _ _ (omega arith)) ∙ c.loop-i.invariant.1
 
-pub are-lines-spec : {M : Type 1} → statement M
-are-lines-spec =
+pub are_lines_spec : {M : Type 1} → statement M
+are_lines_spec =
     tie.close
     (tie.spec
     invariant-loop

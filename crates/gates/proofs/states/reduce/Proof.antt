@@ -41,8 +41,7 @@ loop-less c = search rules
 loop-again : tie.Need-loop-e-preserved invariant-loop decreases-loop
 loop-again c =
     let l = c.loop-e in
-    let z = c.before.in-Whole.z.given in
-    ap (reduced (l.e - 1) z.0.0) c.over_root2-y.ensures ∙ reduced-whole l.e l.x l.y z.0.0 (omega arith) (sym c.divide_root2.ensures ∙ z.1) ∙ l.invariant
+    ap (reduced (l.e - 1) c.in-Whole.z) c.over_root2-y.ensures ∙ reduced-whole l.e l.x l.y c.in-Whole.z (omega arith) (sym c.divide_root2.ensures ∙ c.in-Whole.is) ∙ l.invariant
 
 returns-2 : tie.Need-returns invariant-loop decreases-loop
 returns-2 c =

@@ -99,11 +99,11 @@ returns-3 c =
     let i = s q in
     let x = (r k.before.before.before.before).before.rounded-x.result in
     let y = (r k.before.before.before.before).rounded-y.result in
-    let o = rw (x-is (r k.before.before.before.before), y-is (r k)) at c.whole.ensures.over in
+    let o = rw (x-is (r k.before.before.before.before), y-is (r k.before.before.before.before)) at c.whole.ensures.over in
     let t = rw (back w64 c.whole.type_inv) at c.beyond-t.ensures.0 in
     let e = rw (back w64 c.beyond-t.type_inv, c.conjugate.ensures) at c.combined.ensures in
     sharp_reaches i.args.region i.args.n i.args.u i.args.v i.args.e q.before.product-f.result q.product-g.result i.args.d c.lesser.result x y c.whole.result c.beyond-t.result
-    i.requires.4 i.requires.2.even q.before.product-f.ensures q.product-g.ensures (first k) (second k) o t i.requires.3
+    i.requires.4 i.requires.2.even q.before.product-f.ensures q.product-g.ensures (first k.before.before.before.before) (second k) o t i.requires.3
     (subst (λ (z : RootTwo). Either i.args.d z c.lesser.result) e c.lesser.ensures)
 
 pub sharp_spec : {M : Type 1} → statement M
