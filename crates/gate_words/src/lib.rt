@@ -78,7 +78,7 @@ fn lay(out: &mut [u8], w: Word, go: bool)
     if go {
         let a = w.letters;
         let n = w.len;
-        bytes::copy(&a[..n], out);
+        out[..n].copy_from_slice(&a[..n]);
     }
 }
 

@@ -273,7 +273,7 @@ joined-singles (b ∷ l) = ap (λ (x : List ℕ). b ∷ x) (joined-singles l)
 pub laid-puts : (s : Slate) (l : List ℕ) → laid s l ≡ puts s (singles l)
 unfolding laid puts singles
 laid-puts s [] = refl
-laid-puts s (b ∷ l) = laid-puts _ l
+laid-puts s (b ∷ l) = laid-puts (written s.0 s.1 (b ∷ []), after s.0 s.1 (b ∷ [])) l
 
 -- ---- one row further, and none left
 pub laid_none : (xs : List ℕ) (at : ℕ) → Laid xs at [] xs at

@@ -16,7 +16,7 @@ determinant-requires : tie.Need-determinant-requires
 determinant-requires c κs = rw c.of.ensures (matrix-bounded _ (fits c.before))
 
 returns : tie.Need-returns
-returns c = c.determinant.ensures ∙ ap determinant_of c.before.of.ensures
+returns c = c.determinant.ensures ∙ ap determinant_of c.of.ensures
 
-pub determinant-of-spec : {M : Type 1} → statement M
-determinant-of-spec = tie.close (tie.spec of-requires determinant-requires returns)
+pub determinant_of_spec : {M : Type 1} → statement M
+determinant_of_spec = tie.close (tie.spec of-requires determinant-requires returns)

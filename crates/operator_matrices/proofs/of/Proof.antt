@@ -23,11 +23,11 @@ fits c = search rules
 returns : tie.Need-returns
 unfolding matrix_of
 returns c =
-    let c3 = c.before.before.before.before in
-    let c2 = c3.before.before.before.before in
-    let c1 = c2.before.before.before.before in
-    let r = bits16 (fits c1.before.before.before.before) in
-    rw (c1.minus.ensures, c2.minus2.ensures, c3.plus.ensures, c.plus2.ensures, r.a, r.b, r.c, r.d, r.ai, r.bi, r.ci, r.di) refl
+    let c3 = c in
+    let c2 = c3 in
+    let c1 = c2 in
+    let r = bits16 (fits c.before.before.before.before.before.before.before.before.before.before.before.before.before.before.before.before) in
+    rw (c.minus.ensures, c.minus-2.ensures, c.plus.ensures, c.plus-2.ensures, r.a, r.b, r.c, r.d, r.ai, r.bi, r.ci, r.di) refl
 
 pub of_spec : {M : Type 1} → statement M
 of_spec =

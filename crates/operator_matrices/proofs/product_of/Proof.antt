@@ -19,10 +19,10 @@ fits-h : (c : tie.Start) → Fits16 c.args.h
 fits-h c = search rules
 
 product-requires : tie.Need-product-requires
-product-requires c κs = rw (c.before.of.ensures, c.of2.ensures) (matrix-bounded _ (fits-g c.before.before), matrix-bounded _ (fits-h c.before.before))
+product-requires c κs = rw (c.of.ensures, c.of-2.ensures) (matrix-bounded _ (fits-g c.before.before), matrix-bounded _ (fits-h c.before.before))
 
 returns : tie.Need-returns
-returns c = c.product.ensures ∙ ap₂ product_of c.before.before.of.ensures c.before.of2.ensures
+returns c = c.product.ensures ∙ ap₂ product_of c.of.ensures c.of-2.ensures
 
-pub product-of-spec : {M : Type 1} → statement M
-product-of-spec = tie.close (tie.spec of-requires of-requires-2 product-requires returns)
+pub product_of_spec : {M : Type 1} → statement M
+product_of_spec = tie.close (tie.spec of-requires of-requires-2 product-requires returns)

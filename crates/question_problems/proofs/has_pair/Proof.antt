@@ -15,10 +15,10 @@ use Rattle.question_problems.proofs.has_pair.Tie as tie
 abbrev Any : RootTwo → Type 0
 Any z = Unit {0}
 
-abbrev invariant-loop : tie.invariant-loop
+abbrev invariant-loop : tie.invariant-loop-t
 invariant-loop l end t₀ t = (t ≤ top + 1) × Rows l Any t
 
-abbrev decreases-loop : tie.decreases-loop
+abbrev decreases-loop : tie.decreases-loop-t
 decreases-loop l end t₀ t = end - t
 
 module _ (s : tie.Start invariant-loop decreases-loop) where
@@ -26,50 +26,50 @@ module _ (s : tie.Start invariant-loop decreases-loop) where
   l = s.args.l
 
   searchable : Searchable l
-  searchable = s.pre
+  searchable = s.requires
 
-loop-holds : tie.Need-loop-init invariant-loop decreases-loop
+loop-holds : tie.Need-loop-t-init invariant-loop decreases-loop
 loop-holds c = (omega (arith, (searchable c).from_in), rows_start (l c) Any (searchable c))
 
-start-requires : tie.Need-start-requires invariant-loop decreases-loop
+start-requires : tie.Need-start-q-requires invariant-loop decreases-loop
 start-requires c κs = let s = c.before.before in (searchable s, omega (arith, (searchable s).end-in))
 
 reaches-requires : tie.Need-reaches-requires invariant-loop decreases-loop
 reaches-requires c κs = let s = c.before.before.before.before in (searchable s, omega (arith, (searchable s).end-in), omega arith)
 
-returns : tie.Need-returns invariant-loop decreases-loop
+returns : tie.Need-returns-then-reaches invariant-loop decreases-loop
 returns c = λ e. absurd (false≢true (sym e))
 
-add-t : tie.Need-overflow-add-t invariant-loop decreases-loop
+add-t : tie.Need-overflow_add-t invariant-loop decreases-loop
 add-t c = omega arith
 
-loop-less : tie.Need-loop-smaller invariant-loop decreases-loop
+loop-less : tie.Need-loop-t-smaller invariant-loop decreases-loop
 loop-less c = omega arith
 
-loop-again : tie.Need-loop-preserved invariant-loop decreases-loop
+loop-again : tie.Need-loop-t-preserved invariant-loop decreases-loop
 loop-again c =
-    let d = c.before in
-    let r = d.before.before in
+    let d = c in
+    let r = d in
     let a = r.before in
-    let t = r.loop.t in
-    let q = d.start.result in
-    let row = row-start (l a) Any t q d.start.ensures in (
-      omega (arith, (searchable a).end-in),
-      rows_more (l a) Any t r.loop.invariant.1
-          (⊎_elim (λ w. row_done (l a) Any t q (searchable a) row (sym w.1.ensures ∙ w.2.left)) (λ w. row-all (l a) Any t q w.left row) c.if1.branch),
+    let t = c.loop-t.t in
+    let q = c.start-q.result in
+    let row = row-start (l a.before.before.before) Any t q c.start-q.ensures in (
+      omega (arith, (searchable a.before.before.before).end-in),
+      rows_more (l a.before.before.before) Any t c.loop-t.invariant.1
+          (⊎_elim (λ w. row_done (l a) Any t q (searchable a) row (sym w.1.ensures ∙ w.2.left)) (λ w. row-all (l a) Any t q w.left row) c.if-q-lt-TOP.branch),
     )
 
-returns-2 : tie.Need-returns-2 invariant-loop decreases-loop
+returns-2 : tie.Need-returns invariant-loop decreases-loop
 returns-2 c =
-    let r = c.before in
+    let r = c in
     let a = r.before in
-    λ e. record { none = λ t q i k m. r.loop.invariant.1 t q (before ((searchable a).rows t q i m).1 c.loop-test.false) i k m tt }
+    λ e. record { none = λ t q i k m. c.loop-t.invariant.1 t q (before ((searchable a.before).rows t q i m).1 c.loop-t-test.false) i k m tt }
   where
     before : {a e t : ℕ} → a < e → e ≤ t → a < t
     before i j = omega arith
 
-pub has-pair-spec : {M : Type 1} → statement M
-has-pair-spec =
+pub has_pair_spec : {M : Type 1} → statement M
+has_pair_spec =
     tie.close
     (tie.spec
     invariant-loop

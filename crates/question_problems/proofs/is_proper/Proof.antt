@@ -12,17 +12,17 @@ use Rattle.question_strips.specs.Strips.{end_size}
 use Rattle.question_problems.proofs.is_proper.Statement.{statement}
 use Rattle.question_problems.proofs.is_proper.Tie as tie
 
-combined-requires : tie.Need-combined-requires
+combined-requires : tie.Need-combined-d-requires
 combined-requires c κs = room (pos 1) (negsuc 0) c.args.s.hi c.args.s.lo 1 end_size 1 end_size (omega arith) c.requires.hi (omega arith) c.requires.lo (omega arith)
 
-is-nonneg-requires : tie.Need-is-nonneg-requires
+is-nonneg-requires : tie.Need-is_nonneg-requires
 is-nonneg-requires c κs = search rules
 
 returns : tie.Need-returns
-returns c = let d = c.before in let s = d.before.args.s in c.is-nonneg.ensures ∙ ap nonneg (d.combined.ensures ∙ difference s.hi s.lo)
+returns c = let d = c in let s = c.args.s in c.is_nonneg.ensures ∙ ap nonneg (c.combined-d.ensures ∙ difference s.hi s.lo)
   where
     difference : (h l : RootTwo) → num (pos 1) ⊠ h ⊞ num (negsuc 0) ⊠ l ≡ h ⊟ l
     difference h l = by_ring ring√ (h ∷ l ∷ []) (search poly depth 30) refl
 
-pub is-proper-spec : {M : Type 1} → statement M
-is-proper-spec = tie.close (tie.spec combined-requires is-nonneg-requires returns)
+pub is_proper_spec : {M : Type 1} → statement M
+is_proper_spec = tie.close (tie.spec combined-requires is-nonneg-requires returns)

@@ -10,15 +10,15 @@ pair-requires : tie.Need-pair-requires
 pair-requires c κs = (omega arith, omega arith, omega arith)
 
 product-requires : tie.Need-product-requires
-product-requires c κs = let s = c.before in products s.args.l.back _ (2 ^ 17) (2 ^ 41) s.requires.0.back c.pair.ensures.1 (omega arith)
+product-requires c κs = let s = c in products c.args.l.back _ (2 ^ 17) (2 ^ 41) c.requires.0.back c.pair.ensures.1 (omega arith)
 
 returns : tie.Need-returns
 returns c =
-    let d = c.before in
-    let s = d.before in
-    let l = s.args.l in
+    let d = c in
+    let s = d in
+    let l = c.args.l in
     let e = c.product.ensures in
-    (e ∙ ap (λ x. l.back ⊠ x) d.pair.ensures.0, subst (Sized (2 ^ 60) (2 ^ 60)) (sym e) (product-size l.back _ (2 ^ 17) (2 ^ 41) s.requires.0.back d.pair.ensures.1 (2 ^ 60) (omega arith)))
+    (e ∙ ap (λ x. l.back ⊠ x) c.pair.ensures.0, subst (Sized (2 ^ 60) (2 ^ 60)) (sym e) (product-size l.back _ (2 ^ 17) (2 ^ 41) c.requires.0.back c.pair.ensures.1 (2 ^ 60) (omega arith)))
 
-pub number-spec : {M : Type 1} → statement M
-number-spec = tie.close (tie.spec pair-requires product-requires returns)
+pub number_spec : {M : Type 1} → statement M
+number_spec = tie.close (tie.spec pair-requires product-requires returns)

@@ -9,5 +9,5 @@ upper-requires c κs = let p = c.requires in near _ _ c.args.t c.args.q p.0.firs
 returns : tie.Need-returns
 returns c = search rules
 
-pub reaches-spec : {M : Type 1} → statement M
-reaches-spec = tie.close (tie.spec upper-requires returns)
+pub reaches_spec : {M : Type 1} → statement M
+reaches_spec = tie.close (tie.spec upper-requires returns)

@@ -6,21 +6,21 @@ use Rattle.operator.specs.lemmas.Undoes.{inverse_is}
 use Rattle.question_reduction.proofs.propose.Statement.{statement}
 use Rattle.question_reduction.proofs.propose.Tie as tie
 
-is-accepted-requires : tie.Need-is-accepted-requires
+is-accepted-requires : tie.Need-is_accepted-requires
 is-accepted-requires c κs = search rules
 
-reduced-requires : tie.Need-reduced-requires
-reduced-requires c κs = sym c.before.is-accepted.ensures ∙ c.if1.true
+reduced-requires : tie.Need-reduced-t-requires
+reduced-requires c κs = sym c.is_accepted.ensures ∙ c.if-is_accepted.true
 
-returns : tie.Need-returns
-returns c = (inverse_is _ _ c.before.reduced.ensures.undone).0
+returns : tie.Need-returns-then-is_accepted
+returns c = (inverse_is _ _ c.reduced-t.ensures.undone).0
 
 identity-special : check_of identity ≡ Special
 unfolding check_of in_range even_parity special det_whole det_root
 identity-special = refl
 
-returns-2 : tie.Need-returns-2
+returns-2 : tie.Need-returns-else-is_accepted
 returns-2 c = identity-special
 
-pub propose-spec : {M : Type 1} → statement M
-propose-spec = tie.close (tie.spec is-accepted-requires reduced-requires returns returns-2)
+pub propose_spec : {M : Type 1} → statement M
+propose_spec = tie.close (tie.spec is-accepted-requires reduced-requires returns returns-2)

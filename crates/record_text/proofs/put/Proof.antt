@@ -89,7 +89,7 @@ loop-again c =
     let q = c.put_line-end in
     let w = sym c.is_whole.ensures ∙ c.if-not-is_whole.false in
     let m = records-more bytes l.at c.loop-at-test.true k.result k.ensures l.invariant.0 l.invariant.1 w in
-    rw c.body_length-at.ensures (m.0, m.1, texts_more (l.out, l.end) (q.new.0, q.result) k.result (numbers_at (fields_of k.result) (drop (l.at + 1) bytes) 0) _ _ m.2 (rw (rest bytes (l.at + 1)) at q.ensures) ∙ l.invariant.2)
+    rw c.body_length-at.ensures (m.0, m.1, texts_more (l.out, l.end) (q.new.out, q.result) k.result (numbers_at (fields_of k.result) (drop (l.at + 1) bytes) 0) _ _ m.2 (rw (rest bytes (l.at + 1)) at q.ensures) ∙ l.invariant.2)
 
 same-length-2 : tie.Need-shape_of-out invariant-loop decreases-loop
 same-length-2 c = let l = c.loop-at in puts-same (l.out, l.end) (c.args.out.now, 0) _ _ l.invariant.2

@@ -48,7 +48,7 @@ loop-again c =
     let q = c.put_signed-a in
     let zs = c.args.numbers.now in
     let h : SFits w64 (get_or zs l.i (pos 0)) = search rules in
-    numbers_more (l.out, l.a) (p.new.out, p.result) (q.new.out, q.result) zs l.i c.loop-i-test.true (put_one l.out-1 l.a (32 ∷ []) p.new.out p.result p.ensures) (put_one p.new.out p.result (signed_decimal (get_or zs l.i (pos 0))) q.new.out q.result (rw (to_z-of_z h) at q.ensures)) ∙ l.invariant
+    numbers_more (l.out, l.a) (p.new.out, p.result) (q.new.out, q.result) zs l.i c.loop-i-test.true (put_one l.out l.a (32 ∷ []) p.new.out p.result p.ensures) (put_one p.new.out p.result (signed_decimal (get_or zs l.i (pos 0))) q.new.out q.result (rw (to_z-of_z h) at q.ensures)) ∙ l.invariant
 
 same_length : tie.Need-shape_of-out invariant-loop decreases-loop
 same_length c = puts-same (c.loop-i.out, c.loop-i.a) (c.args.out.now, c.args.at) _ _ c.loop-i.invariant

@@ -18,10 +18,10 @@ abs-requires-2 c κs = search rules
 
 returns : tie.Need-returns
 returns c =
-    let s = c.before.before.before.before in
-    let p : SFits w64 s.args.e.p = search rules in
-    let q : SFits w64 s.args.e.q = search rules in
-    ap₂ (λ (m n : ℕ). leb m (2 ^ 30) && leb n (2 ^ 30)) (c.before.before.abs.ensures ∙ ap nat_abs (to_z-of_z p)) (c.abs2.ensures ∙ ap nat_abs (to_z-of_z q))
+    let s = c in
+    let p : SFits w64 c.args.e.p = search rules in
+    let q : SFits w64 c.args.e.q = search rules in
+    ap₂ (λ (m n : ℕ). leb m (2 ^ 30) && leb n (2 ^ 30)) (c.abs.ensures ∙ ap nat_abs (to_z-of_z p)) (c.abs-2.ensures ∙ ap nat_abs (to_z-of_z q))
 
-pub entry-is-within-spec : {M : Type 1} → statement M
-entry-is-within-spec = tie.close (tie.spec abs-requires abs-requires-2 returns)
+pub entry_is_within_spec : {M : Type 1} → statement M
+entry_is_within_spec = tie.close (tie.spec abs-requires abs-requires-2 returns)

@@ -10,41 +10,41 @@ use Rattle.operator_matrices.proofs.bounded.product.Statement.{statement}
 use Rattle.operator_matrices.proofs.bounded.product.Tie as tie
 
 -- what the test of both says
-tested : (c : tie.After-is-within2) → let a = c.before.before.args in c.before.is_within.result && c.is-within2.result ≡ lies_within a.m && lies_within a.n
-tested c = ap₂ ◌&&◌ c.before.is_within.ensures c.is-within2.ensures
+tested : (c : tie.After-is_within-2) → let a = c.args in c.is_within.result && c.is_within-2.result ≡ lies_within a.m && lies_within a.n
+tested c = ap₂ ◌&&◌ c.is_within.ensures c.is_within-2.ensures
 
-is-within-requires : tie.Need-is-within-requires
+is-within-requires : tie.Need-is_within-requires
 is-within-requires c κs = search rules
 
-is-within-requires-2 : tie.Need-is-within-requires-2
+is-within-requires-2 : tie.Need-is_within-requires-2
 is-within-requires-2 c κs = search rules
 
-product-requires : tie.Need-product-requires
+product-requires : tie.Need-product-p-requires
 product-requires c κs =
-    let a = c.before.before.before.args in
-    let h = both_true (lies_within a.m) (lies_within a.n) (sym (tested c.before) ∙ c.if1.true) in
+    let a = c.args in
+    let h = both_true (lies_within a.m) (lies_within a.n) (sym (tested c.before) ∙ c.if-is_within.true) in
     (within-bounded a.m h.0, within-bounded a.n h.1)
 
-array-copy-out-first : tie.Need-array-copy-out-first
+array-copy-out-first : tie.Need-bounds-p-0
 array-copy-out-first c = search rules
 
-array-copy-out-second : tie.Need-array-copy-out-second
+array-copy-out-second : tie.Need-bounds-p-1
 array-copy-out-second c = search rules
 
-returns : tie.Need-returns
+returns : tie.Need-returns-then-is_within
 unfolding product_within product_of
 returns c =
-    let p = c.before.before in
-    let t = sym (tested p.before.before) ∙ p.before.if1.true in
-    let rows = ap (λ (m : Matrix). get_or m 0 [] ∷ get_or m 1 [] ∷ []) p.product.ensures in
+    let p = c in
+    let t = sym (tested c.before.before.before.before) ∙ c.if-is_within.true in
+    let rows = ap (λ (m : Matrix). get_or m 0 [] ∷ get_or m 1 [] ∷ []) c.product-p.ensures in
     record { exact = sym t; rows = rw t rows }
 
-returns-2 : tie.Need-returns-2
+returns-2 : tie.Need-returns
 unfolding product_within
-returns-2 c = let t = sym (tested c.before) ∙ c.if1.false in record { exact = sym t; rows = rw t refl }
+returns-2 c = let t = sym (tested c.before) ∙ c.if-is_within.false in record { exact = sym t; rows = rw t refl }
 
-pub product-spec : {M : Type 1} → statement M
-product-spec =
+pub product_spec : {M : Type 1} → statement M
+product_spec =
     tie.close
     (tie.spec
     is-within-requires

@@ -16,17 +16,17 @@ fits c =
     let uw = size-*≤ a.u a.w (2 ^ 30) (2 ^ 30) c.requires.2 c.requires.3 in
     (size→fits (omega arith), size→fits (omega arith), size→fits (omega (arith, dot_size a.x a.y a.u a.w c.requires.0 c.requires.1 c.requires.2 c.requires.3)))
 
-mul-result : tie.Need-overflow-mul-result
+mul-result : tie.Need-overflow_mul-result
 mul-result c = let h = fits c in search rules
 
-mul-result-2 : tie.Need-overflow-mul-result-2
+mul-result-2 : tie.Need-overflow_mul-result-2
 mul-result-2 c = let h = fits c in search rules
 
-add-result : tie.Need-overflow-add-result
+add-result : tie.Need-overflow_add-result
 add-result c = let h = fits c in search rules
 
 returns : tie.Need-returns
 returns c = let h = fits c in search rules
 
-pub dot-spec : {M : Type 1} → statement M
-dot-spec = tie.close (tie.spec mul-result mul-result-2 add-result returns)
+pub dot_spec : {M : Type 1} → statement M
+dot_spec = tie.close (tie.spec mul-result mul-result-2 add-result returns)

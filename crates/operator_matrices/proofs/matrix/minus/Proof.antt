@@ -12,20 +12,20 @@ use Rattle.operator_matrices.proofs.matrix.minus.Tie as tie
 fits : (c : tie.Start) → SFits w64 c.args.p × SFits w64 c.args.x × SFits w64 c.args.y × SFits w64 (◌-ℤ◌ c.args.x c.args.y)
 fits c = (sfits_widen tt c.ranges.p, sfits_widen tt c.ranges.x, sfits_widen tt c.ranges.y, size→fits (omega (arith, size-- c.args.x c.args.y, fits→size c.ranges.x, fits→size c.ranges.y)))
 
-cast-t4 : tie.Need-overflow-cast-t4
+cast-t4 : tie.Need-overflow_cast-result
 cast-t4 c = let h = fits c in search rules
 
-cast-t5 : tie.Need-overflow-cast-t5
+cast-t5 : tie.Need-overflow_cast-result-2
 cast-t5 c = let h = fits c in search rules
 
-cast-t6 : tie.Need-overflow-cast-t6
+cast-t6 : tie.Need-overflow_cast-result-3
 cast-t6 c = let h = fits c in search rules
 
-sub-t7 : tie.Need-overflow-sub-t7
+sub-t7 : tie.Need-overflow_sub-result
 sub-t7 c = let h = fits c in search rules
 
 returns : tie.Need-returns
 returns c = let h = fits c in ext (search rules) (search rules)
 
-pub minus-spec : {M : Type 1} → statement M
-minus-spec = tie.close (tie.spec cast-t4 cast-t5 cast-t6 sub-t7 returns)
+pub minus_spec : {M : Type 1} → statement M
+minus_spec = tie.close (tie.spec cast-t4 cast-t5 cast-t6 sub-t7 returns)

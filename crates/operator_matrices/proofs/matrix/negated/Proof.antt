@@ -14,17 +14,17 @@ fits c =
     let x = c.args.x in
     (search rules, search rules, size→fits (omega (arith, size-- (pos 0) x.p, c.requires.p)), size→fits (omega (arith, size-- (pos 0) x.q, c.requires.q)))
 
-sub-t2 : tie.Need-overflow-sub-t2
+sub-t2 : tie.Need-overflow_sub-result
 sub-t2 c = let h = fits c.before.before in search rules
 
-sub-t3 : tie.Need-overflow-sub-t3
+sub-t3 : tie.Need-overflow_sub-result-2
 sub-t3 c = let h = fits c.before.before.before.before in search rules
 
 returns : tie.Need-returns
 returns c =
     let s = c.before.before.before.before in
-    let h = fits s in
-    rw (to_z-of_z h.0, to_z-of_z h.1, to_z-of_z h.2, to_z-of_z h.3) (ext (+ℤ_idl (neg_ℤ s.args.x.p)) (+ℤ_idl (neg_ℤ s.args.x.q)))
+    let h = fits c.before.before.before.before in
+    rw (to_z-of_z h.0, to_z-of_z h.1, to_z-of_z h.2, to_z-of_z h.3) (ext (+ℤ_idl (neg_ℤ c.args.x.p)) (+ℤ_idl (neg_ℤ c.args.x.q)))
 
-pub negated-spec : {M : Type 1} → statement M
-negated-spec = tie.close (tie.spec sub-t2 sub-t3 returns)
+pub negated_spec : {M : Type 1} → statement M
+negated_spec = tie.close (tie.spec sub-t2 sub-t3 returns)

@@ -25,48 +25,48 @@ dot-requires c κs = search rules
 dot-requires-2 : tie.Need-dot-requires-2
 dot-requires-2 c κs = search rules
 
-pp : (c : tie.After-dot) → let a = c.before.before.before.before.before.args in to_z w64 (of_z w64 c.dot.result) ≡ a.x.p *ℤ a.y.p +ℤ a.u.p *ℤ a.w.p
-pp c = let h = fits c.before.before.before.before.before in back w64 c.dot.type-inv ∙ rw (to_z-of_z h.0, to_z-of_z h.2, to_z-of_z h.4, to_z-of_z h.6) at c.dot.ensures
+pp : (c : tie.After-dot) → let a = c.args in to_z w64 (of_z w64 c.dot.result) ≡ a.x.p *ℤ a.y.p +ℤ a.u.p *ℤ a.w.p
+pp c = let h = fits c.before.before.before.before.before in back w64 c.dot.type_inv ∙ rw (to_z-of_z h.0, to_z-of_z h.2, to_z-of_z h.4, to_z-of_z h.6) at c.dot.ensures
 
-qq : (c : tie.After-dot2) → let a = c.before.before.before.before.before.before.before.before.before.before.args in to_z w64 (of_z w64 c.dot2.result) ≡ a.x.q *ℤ a.y.q +ℤ a.u.q *ℤ a.w.q
-qq c = let h = fits c.before.before.before.before.before.before.before.before.before.before in back w64 c.dot2.type-inv ∙ rw (to_z-of_z h.1, to_z-of_z h.3, to_z-of_z h.5, to_z-of_z h.7) at c.dot2.ensures
+qq : (c : tie.After-dot-2) → let a = c.args in to_z w64 (of_z w64 c.dot-2.result) ≡ a.x.q *ℤ a.y.q +ℤ a.u.q *ℤ a.w.q
+qq c = let h = fits c.before.before.before.before.before.before.before.before.before.before in back w64 c.dot-2.type_inv ∙ rw (to_z-of_z h.1, to_z-of_z h.3, to_z-of_z h.5, to_z-of_z h.7) at c.dot-2.ensures
 
-pq : (c : tie.After-dot3) → let a = c.before.before.before.before.before.before.before.before.before.before.before.before.before.before.before.args in to_z w64 (of_z w64 c.dot3.result) ≡ a.x.p *ℤ a.y.q +ℤ a.x.q *ℤ a.y.p
-pq c = let h = fits c.before.before.before.before.before.before.before.before.before.before.before.before.before.before.before in back w64 c.dot3.type-inv ∙ rw (to_z-of_z h.0, to_z-of_z h.3, to_z-of_z h.1, to_z-of_z h.2) at c.dot3.ensures
+pq : (c : tie.After-dot-3) → let a = c.args in to_z w64 (of_z w64 c.dot-3.result) ≡ a.x.p *ℤ a.y.q +ℤ a.x.q *ℤ a.y.p
+pq c = let h = fits c.before.before.before.before.before.before.before.before.before.before.before.before.before.before.before in back w64 c.dot-3.type_inv ∙ rw (to_z-of_z h.0, to_z-of_z h.3, to_z-of_z h.1, to_z-of_z h.2) at c.dot-3.ensures
 
-qp : (c : tie.After-dot4) → let a = c.before.before.before.before.before.before.before.before.before.before.before.before.before.before.before.before.before.before.before.before.args in to_z w64 (of_z w64 c.dot4.result) ≡ a.u.p *ℤ a.w.q +ℤ a.u.q *ℤ a.w.p
-qp c = let h = fits c.before.before.before.before.before.before.before.before.before.before.before.before.before.before.before.before.before.before.before.before in back w64 c.dot4.type-inv ∙ rw (to_z-of_z h.4, to_z-of_z h.7, to_z-of_z h.5, to_z-of_z h.6) at c.dot4.ensures
+qp : (c : tie.After-dot-4) → let a = c.args in to_z w64 (of_z w64 c.dot-4.result) ≡ a.u.p *ℤ a.w.q +ℤ a.u.q *ℤ a.w.p
+qp c = let h = fits c.before.before.before.before.before.before.before.before.before.before.before.before.before.before.before.before.before.before.before.before in back w64 c.dot-4.type_inv ∙ rw (to_z-of_z h.4, to_z-of_z h.7, to_z-of_z h.5, to_z-of_z h.6) at c.dot-4.ensures
 
-div-t7 : tie.Need-nonzero-div-t7
+div-t7 : tie.Need-nonzero_div-result
 div-t7 c = rw (qq c) (omega arith, (sizes c.before.before.before.before.before.before.before.before.before.before).0)
 
-add-t8 : tie.Need-overflow-add-t8
+add-t8 : tie.Need-overflow_add-result
 add-t8 c =
     let h = sizes c.before.before.before.before.before.before.before.before.before.before in
     let d = c.before.before.before.before.before in
-    rw (pp d, qq c, to_z-of_z h.0) h.1
+    rw (pp c.before.before.before.before.before, qq c, to_z-of_z h.0) h.1
 
 dot-requires-3 : tie.Need-dot-requires-3
 dot-requires-3 c κs = search rules
 
 dot-requires-4 : tie.Need-dot-requires-4
-dot-requires-4 c κs = let s = c.before.before.before.before.before.before.before.before.before.before.before.before.before.before.before.before.before.before.before in let h = fits s in search rules
+dot-requires-4 c κs = let s = c.before.before.before.before.before.before.before.before.before.before.before.before.before.before.before.before.before.before.before in let h = fits c.before.before.before.before.before.before.before.before.before.before.before.before.before.before.before.before.before.before.before in search rules
 
-add-t11 : tie.Need-overflow-add-t11
+add-t11 : tie.Need-overflow_add-result-2
 add-t11 c =
     let d = c.before.before.before.before.before in
-    rw (pq d, qp c) (sizes c.before.before.before.before.before.before.before.before.before.before.before.before.before.before.before.before.before.before.before.before).2
+    rw (pq c.before.before.before.before.before, qp c) (sizes c.before.before.before.before.before.before.before.before.before.before.before.before.before.before.before.before.before.before.before.before).2
 
 returns : tie.Need-returns
 returns c =
     let d3 = c.before.before.before.before.before in
     let d2 = d3.before.before.before.before.before in
     let d1 = d2.before.before.before.before.before in
-    let h = sizes d1.before.before.before.before.before in
-    rw (pp d1, qq d2, to_z-of_z h.0, to_z-of_z h.1, pq d3, qp c, to_z-of_z h.2) refl
+    let h = sizes c.before.before.before.before.before.before.before.before.before.before.before.before.before.before.before.before.before.before.before.before in
+    rw (pp c.before.before.before.before.before.before.before.before.before.before.before.before.before.before.before, qq c.before.before.before.before.before.before.before.before.before.before, to_z-of_z h.0, to_z-of_z h.1, pq c.before.before.before.before.before, qp c, to_z-of_z h.2) refl
 
-pub pairs-spec : {M : Type 1} → statement M
-pairs-spec =
+pub pairs_spec : {M : Type 1} → statement M
+pairs_spec =
     tie.close
     (tie.spec
     dot-requires

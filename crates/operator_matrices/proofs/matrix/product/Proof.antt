@@ -18,8 +18,8 @@ cell-requires-4 c κs = search rules
 
 returns : tie.Need-returns
 unfolding product_of
-returns c = λ k. (c.before.before.before.cell.ensures k ∷ c.before.before.cell2.ensures k ∷ []) ∷ (c.before.cell3.ensures k ∷ c.cell4.ensures k ∷ []) ∷ []
+returns c = λ k. (c.cell.ensures k ∷ c.cell-2.ensures k ∷ []) ∷ (c.cell-3.ensures k ∷ c.cell-4.ensures k ∷ []) ∷ []
 
-pub product-spec : {M : Type 1} → statement M
-product-spec =
+pub product_spec : {M : Type 1} → statement M
+product_spec =
     tie.close (tie.spec cell-requires cell-requires-2 cell-requires-3 cell-requires-4 returns)

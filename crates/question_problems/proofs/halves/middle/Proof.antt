@@ -19,31 +19,31 @@ module _ (s : tie.Start) where
   y = s.args.y
 
   sum-size : nat_abs (half x +ℤ half y) ≤ end_size
-  sum-size = omega (arith, size-half x, size-half y, s.pre.0, s.pre.1, size-+ (half x) (half y))
+  sum-size = omega (arith, size-half x, size-half y, s.requires.0, s.requires.1, size-+ (half x) (half y))
 
   x-half : SFits w64 (half x)
-  x-half = size→fits (omega (arith, size-half x, s.pre.0))
+  x-half = size→fits (omega (arith, size-half x, s.requires.0))
 
   y-half : SFits w64 (half y)
-  y-half = size→fits (omega (arith, size-half y, s.pre.1))
+  y-half = size→fits (omega (arith, size-half y, s.requires.1))
 
   sum : SFits w64 (half x +ℤ half y)
   sum = size→fits (omega (arith, sum-size))
 
-div-result : tie.Need-nonzero-div-result
-div-result c = let s = c.before in (omega arith, simp (to_z-of_z s.ranges.x) (x-half s))
+div-result : tie.Need-nonzero_div-result
+div-result c = let s = c.before in (omega arith, simp (to_z-of_z c.ranges.x) (x-half s))
 
-div-result-2 : tie.Need-nonzero-div-result-2
-div-result-2 c = let s = c.before in (omega arith, simp (to_z-of_z s.ranges.y) (y-half s))
+div-result-2 : tie.Need-nonzero_div-result-else-x-y
+div-result-2 c = let s = c.before in (omega arith, simp (to_z-of_z c.ranges.y) (y-half s))
 
-add-result : tie.Need-overflow-add-result
-add-result c = let s = c.before in simp (to_z-of_z s.ranges.x, to_z-of_z s.ranges.y, to_z-of_z (x-half s), to_z-of_z (y-half s)) (sum s)
+add-result : tie.Need-overflow_add-result
+add-result c = let s = c.before in simp (to_z-of_z c.ranges.x, to_z-of_z c.ranges.y, to_z-of_z (x-half s), to_z-of_z (y-half s)) (sum s)
 
-returns : tie.Need-returns
-returns c = let s = c.before in rw (to_z-of_z s.ranges.x) s.requires.0
+returns : tie.Need-returns-then-x-y
+returns c = let s = c in rw (to_z-of_z c.ranges.x) c.requires.0
 
-returns-2 : tie.Need-returns-2
-returns-2 c = let s = c.before in simp (to_z-of_z s.ranges.x, to_z-of_z s.ranges.y, to_z-of_z (x-half s), to_z-of_z (y-half s), to_z-of_z (sum s)) (sum-size s)
+returns-2 : tie.Need-returns-else-x-y
+returns-2 c = let s = c.before in simp (to_z-of_z c.ranges.x, to_z-of_z c.ranges.y, to_z-of_z (x-half s), to_z-of_z (y-half s), to_z-of_z (sum s)) (sum-size s)
 
-pub middle-spec : {M : Type 1} → statement M
-middle-spec = tie.close (tie.spec div-result div-result-2 add-result returns returns-2)
+pub middle_spec : {M : Type 1} → statement M
+middle_spec = tie.close (tie.spec div-result div-result-2 add-result returns returns-2)

@@ -51,7 +51,7 @@ returns : tie.Need-returns-then-not-is_near
 returns c = search rules
 
 is-near-requires-2 : tie.Need-is_near-requires-2
-is-near-requires-2 c κs = let r = c.before.before in (g-size r.before.before, rw (y-is r) c.rounded-y.ensures)
+is-near-requires-2 c κs = let r = c.before.before in (g-size c.before.before.before.before, rw (y-is c.before.before) c.rounded-y.ensures)
 
 returns-2 : tie.Need-returns-then-not-is_near-2
 returns-2 c = search rules
@@ -81,7 +81,7 @@ conjugate-requires c κs = search rules
 combined-requires : tie.Need-combined-requires
 combined-requires c κs =
     let b = c in
-    let i = s (p b.before.before.before) in
+    let i = s (p c.before.before.before) in
     rw (back w64 c.beyond-t.type_inv, c.conjugate.ensures)
     (room c.beyond-t.result (pos 0) _ i.args.e (2 ^ 32) (2 ^ 17) 0 (2 ^ 17) c.beyond-t.ensures.1 (conj_size (2 ^ 17) i.args.e i.requires.2.size) (omega arith) i.requires.2.size (omega arith))
 
@@ -95,15 +95,15 @@ returns-3 c =
     let b = j in
     let w = b in
     let k = w.before in
-    let q = p k.before.before.before.before in
+    let q = p c.before.before.before.before.before in
     let i = s q in
-    let x = (r k.before.before.before.before).before.rounded-x.result in
-    let y = (r k.before.before.before.before).rounded-y.result in
-    let o = rw (x-is (r k.before.before.before.before), y-is (r k.before.before.before.before)) at c.whole.ensures.over in
+    let x = (r c.before.before.before.before.before).before.rounded-x.result in
+    let y = (r c.before.before.before.before.before).rounded-y.result in
+    let o = rw (x-is (r c.before.before.before.before.before), y-is (r c.before.before.before.before.before)) at c.whole.ensures.over in
     let t = rw (back w64 c.whole.type_inv) at c.beyond-t.ensures.0 in
     let e = rw (back w64 c.beyond-t.type_inv, c.conjugate.ensures) at c.combined.ensures in
     sharp_reaches i.args.region i.args.n i.args.u i.args.v i.args.e q.before.product-f.result q.product-g.result i.args.d c.lesser.result x y c.whole.result c.beyond-t.result
-    i.requires.4 i.requires.2.even q.before.product-f.ensures q.product-g.ensures (first k.before.before.before.before) (second k) o t i.requires.3
+    i.requires.4 i.requires.2.even q.before.product-f.ensures q.product-g.ensures (first c.before.before.before.before.before) (second c.before.before.before.before.before) o t i.requires.3
     (subst (λ (z : RootTwo). Either i.args.d z c.lesser.result) e c.lesser.ensures)
 
 pub sharp_spec : {M : Type 1} → statement M

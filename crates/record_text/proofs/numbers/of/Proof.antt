@@ -110,12 +110,12 @@ loop-again c =
     let k = few f in
     let w = c.loop-i.invariant.1 in
     let next =
-    subst (λ (g : Field). take (i l.before + 1) (set c.loop-i.values (i l) (number_at g s c.loop-i.at)) ++ numbers_at (drop (i l + 1) (fields f)) s (c.loop-i.at + g.size) ≡ numbers_at (fields f) s 0) (same l)
-    (numbers-next (fields f) (i l) (u 0) (here l) s c.loop-i.at c.loop-i.values _ (omega arith) c.loop-i.invariant.4) in (
+    subst (λ (g : Field). take (i l.before + 1) (set c.loop-i.values (i l.before) (number_at g s c.loop-i.at)) ++ numbers_at (drop (i l.before + 1) (fields f)) s (c.loop-i.at + g.size) ≡ numbers_at (fields f) s 0) (same l.before)
+    (numbers-next (fields f) (i l.before) (u 0) (here l.before) s c.loop-i.at c.loop-i.values _ (omega arith) c.loop-i.invariant.4) in (
       omega arith,
-      length-set c.loop-i.values (i l) _ ∙ w,
-      (let m = (reads l).most in let a = c.loop-i.invariant.2 in omega arith),
-      (let e = sized l in let b = c.loop-i.invariant.3 in omega arith),
+      length-set c.loop-i.values (i l.before) _ ∙ w,
+      (let m = (reads l.before).most in let a = c.loop-i.invariant.2 in omega arith),
+      (let e = sized l.before in let b = c.loop-i.invariant.3 in omega arith),
       rw (back w64 c.number.type_inv, c.number.ensures) next,
     )
 
@@ -128,8 +128,8 @@ returns c =
     let b = c.loop-i.invariant.0 in
     let k = few f.before in
     let e : c.form_of-form.result.count ≡ c.loop-i.i = omega arith in (
-      ap (λ (n : ℕ). take n c.loop-i.values) e ∙ numbers-done (fields f) c.loop-i.i _ c.loop-i.at c.loop-i.values _ (omega arith) c.loop-i.invariant.4
-          ∙ ap (λ (l : List Field). numbers_at l c.args.s.now 0) (is f),
+      ap (λ (n : ℕ). take n c.loop-i.values) e ∙ numbers-done (fields f.before) c.loop-i.i _ c.loop-i.at c.loop-i.values _ (omega arith) c.loop-i.invariant.4
+          ∙ ap (λ (l : List Field). numbers_at l c.args.s.now 0) (is f.before),
       omega arith,
       c.loop-i.invariant.1,
     )
