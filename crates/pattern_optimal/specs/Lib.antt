@@ -1,5 +1,4 @@
--- `Fewest`: a normal form has the fewest T of all words of its product. `Handed`: so has the word that is handed back. `Unbeaten`: no word meets a job with fewer T than the shortest pattern.
--- `GateSet`: S†, T†, X, Y and Z as letters of their own. `Equal`: words of equal product. `Unitary`: what words spell solves the equation. `Closing`: letters at the ends of a word. `Passing`: S, X and W pass through a normal form.
+-- `GateSet`: S†, T†, X, Y and Z as letters of their own. `Unbeaten`: words that meet a job. The theorems are in proofs/.
 pub mod GateSet
 pub mod Unbeaten
 pub mod lemmas

@@ -1,7 +1,2 @@
--- Proved, and not to be read to believe it: nothing that a contract, or a claim of docs/PROOF.md, is stated with is defined in these files.
-pub mod Equal
-pub mod Unitary
-pub mod Closing
+-- What the lemmas of proofs/lemmas are stated with: nothing that a contract, or a claim of docs/PROOF.md, is stated with is defined here.
 pub mod Passing
-pub mod Fewest
-pub mod Handed

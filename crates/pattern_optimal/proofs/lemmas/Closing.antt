@@ -11,7 +11,7 @@ use Rattle.gate_theory.proofs.lemmas.Letters.{ω-+, turn-back, W-made}
 use Rattle.gate_theory.proofs.lemmas.Run.{ω_rest, made-rest}
 use Rattle.gate_theory.proofs.lemmas.Spelled.{goes_on}
 use Rattle.gate_theory.specs.Word.{Ts}
-use Rattle.pattern_optimal.specs.lemmas.Equal.{Hs-++, assoc, one_right, factor, scale-times}
+use Rattle.pattern_optimal.proofs.lemmas.Equal.{Hs-++, assoc, one_right, factor, scale-times}
 
 -- ---- on the right: the second column times x
 abbrev columns : Point → Point → Point → Matrix

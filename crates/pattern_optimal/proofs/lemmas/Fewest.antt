@@ -14,10 +14,11 @@ use Rattle.gate_theory.proofs.Exact.{word-spells}
 use Rattle.gate_theory.proofs.lemmas.Run.{run}
 use Rattle.gate_theory.proofs.Tailed.{normal}
 use Rattle.gate_theory.proofs.lemmas.Only.{same_of, only}
-use Rattle.pattern_optimal.specs.lemmas.Equal.{Equal, itself, then, before, beyond, of_same, to_same, rule}
-use Rattle.pattern_optimal.specs.lemmas.Unitary.{spells_equation}
-use Rattle.pattern_optimal.specs.lemmas.Closing.{closed, unphased}
-use Rattle.pattern_optimal.specs.lemmas.Passing.{Passer, isS, isX, isW, letters_of, Bodied, syllable-bodied, free-bodied, pass}
+use Rattle.pattern_optimal.proofs.lemmas.Equal.{Equal, itself, then, before, beyond, of_same, to_same, rule}
+use Rattle.pattern_optimal.proofs.lemmas.Unitary.{spells_equation}
+use Rattle.pattern_optimal.proofs.lemmas.Closing.{closed, unphased}
+use Rattle.pattern_optimal.specs.lemmas.Passing.{Passer, isS, isX, isW, letters_of}
+use Rattle.pattern_optimal.proofs.lemmas.Passing.{Bodied, syllable-bodied, free-bodied, pass}
 
 -- ---- a normal form with at most n T, and as many by 2
 pub record Formed (n : ℕ) (w : List Letter) : Type 0 where

@@ -10,7 +10,7 @@ use Rattle.gate_theory.specs.Word.{Ts}
 use Rattle.gate_words.specs.declared.Answer.TheVariants.{First, Second}
 use Rattle.gate_words.specs.Words.{word_u, word_tUT, is_fewer, named, handed}
 use Rattle.gate_words_lent.specs.lemmas.Theorems.{U-spells, TUT-spells, handed-Ts}
-use Rattle.pattern_optimal.specs.lemmas.Fewest.{pulses}
+use Rattle.pattern_optimal.proofs.lemmas.Fewest.{pulses}
 
 abbrev pub handed_word : ℕ → Point → Point → List Letter
 handed_word k u t = named (word_u k u t) (word_tUT k u t) (handed k u t)

@@ -1,0 +1,2 @@
+-- `Table`: each row of the table is as it claims.
+pub mod Table
