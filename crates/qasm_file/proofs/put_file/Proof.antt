@@ -11,37 +11,37 @@ use borrow.Author.Rules.{rules}
 use Rattle.qasm_file.proofs.put_file.Statement.{statement}
 use Rattle.qasm_file.proofs.put_file.Tie as tie
 
-put-too-long-requires : tie.Need-put-too-long-requires
+put-too-long-requires : tie.Need-put_too_long-requires
 put-too-long-requires c κs = search rules
 
-same_length : tie.Need-same-length
+same_length : tie.Need-shape_of-out-then-bytes-gt65536
 same_length c = search rules
 
-returns : tie.Need-returns
+returns : tie.Need-returns-then-bytes-gt65536
 returns c =
-    let s = c.before.before.before.before.before.before.before in
-    let p = c.before.before in
-    rw (lt-ltb 65536 (length s.args.bytes.now) (omega arith)) (one s.args.out.now 0 too_long_line p.put-too-long.new.0 p.put-too-long.result 524335 (lit≤ tt) p.put-too-long.ensures)
+    let s = c in
+    let p = c in
+    rw (lt-ltb 65536 (length c.args.bytes.now) (omega arith)) (one c.args.out.now 0 too_long_line c.put_too_long.new.0 c.put_too_long.result 524335 (lit≤ tt) c.put_too_long.ensures)
 
-end-of-requires : tie.Need-end-of-requires
+end-of-requires : tie.Need-end_of-end-requires
 end-of-requires c κs = search rules
 
-slice-aggregate-put-word : tie.Need-slice-aggregate-put-word
-slice-aggregate-put-word c = sym (length-take-le c.before.before.end_of_lem.result c.before.before.before.before.before.before.args.bytes.now (omega arith))
+slice-aggregate-put-word : tie.Need-slice_bounds-put_word-end
+slice-aggregate-put-word c = sym (length-take-le c.end_of-end.result c.args.bytes.now (omega arith))
 
-put-word-requires : tie.Need-put-word-requires
-put-word-requires c κs = take-most c.before.before.end_of_lem.result 65536 c.before.before.before.before.before.before.args.bytes.now (omega arith)
+put-word-requires : tie.Need-put_word-requires
+put-word-requires c κs = take-most c.end_of-end.result 65536 c.args.bytes.now (omega arith)
 
-same-length-2 : tie.Need-same-length-2
+same-length-2 : tie.Need-shape_of-out
 same-length-2 c = search rules
 
-returns-2 : tie.Need-returns-2
+returns-2 : tie.Need-returns
 returns-2 c =
-    let s = c.before.before.before.before.before.before.before.before.before in
-    rw (le-ltb 65536 (length s.args.bytes.now) (omega arith)) (rw c.before.before.before.before.before.end_of_lem.ensures.0 at c.before.before.put_word.ensures)
+    let s = c in
+    rw (le-ltb 65536 (length c.args.bytes.now) (omega arith)) (rw c.end_of-end.ensures.0 at c.put_word.ensures)
 
-pub put-file-spec : {M : Type 1} → statement M
-put-file-spec =
+pub put_file_spec : {M : Type 1} → statement M
+put_file_spec =
     tie.close
     (tie.spec
     put-too-long-requires

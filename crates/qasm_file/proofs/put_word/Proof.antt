@@ -3,31 +3,31 @@ use borrow.Author.Rules.{rules}
 use Rattle.qasm_file.proofs.put_word.Statement.{statement}
 use Rattle.qasm_file.proofs.put_word.Tie as tie
 
-place-of-requires : tie.Need-place-of-requires
+place-of-requires : tie.Need-place_of-at-requires
 place-of-requires c κs = search rules
 
-sub-put-letters : tie.Need-overflow-sub-put-letters
+sub-put-letters : tie.Need-slice_bounds-put_letters-count
 sub-put-letters c = search rules
 
-part-put-letters-start : tie.Need-slice-bounds-put-letters-start
+part-put-letters-start : tie.Need-slice_bounds-put_letters-start
 part-put-letters-start c = search rules
 
-part-put-letters-end : tie.Need-slice-bounds-put-letters-end
+part-put-letters-end : tie.Need-slice_bounds-put_letters-end
 part-put-letters-end c = search rules
 
-put-letters-requires : tie.Need-put-letters-requires
+put-letters-requires : tie.Need-put_letters-requires
 put-letters-requires c κs = search rules
 
-same_length : tie.Need-same-length
+same_length : tie.Need-shape_of-out
 same_length c = search rules
 
 returns : tie.Need-returns
 returns c =
-    let s = c.before.before.before.before.before.before.before.before in
-    rw (take_rest s.args.bytes.now c.before.before.before.before.before.place_of.result, c.before.before.before.before.before.place_of.ensures.0) at c.before.before.put-letters.ensures
+    let s = c in
+    rw (take_rest c.args.bytes.now c.place_of-at.result, c.place_of-at.ensures.0) at c.put_letters.ensures
 
-pub put-word-spec : {M : Type 1} → statement M
-put-word-spec =
+pub put_word_spec : {M : Type 1} → statement M
+put_word_spec =
     tie.close
     (tie.spec
     place-of-requires

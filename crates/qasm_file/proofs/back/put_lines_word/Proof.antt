@@ -7,56 +7,56 @@ use borrow.Author.Rules.{rules}
 use Rattle.qasm_file.proofs.back.put_lines_word.Statement.{statement}
 use Rattle.qasm_file.proofs.back.put_lines_word.Tie as tie
 
-word-buffer-requires : tie.Need-word-buffer-requires
+word-buffer-requires : tie.Need-word_buffer-word-requires
 word-buffer-requires c κs = search rules
 
-slice-aggregate-read : tie.Need-slice-aggregate-read
+slice-aggregate-read : tie.Need-slice_bounds-read-end
 slice-aggregate-read c = search rules
 
-read-requires : tie.Need-read-requires
+read-requires : tie.Need-read-a-requires
 read-requires c κs = search rules
 
-enum-known-a : tie.Need-enum-known-a
+enum-known-a : tie.Need-enum_known-a
 enum-known-a c = search rules
 
-array-share-prefix-word : tie.Need-array-share-prefix-word
-array-share-prefix-word c = let w = c.before.before.before.before.before in let h = (read-wrote c.before.before.before.before.before.before.before.before.before.before.args.lines.now _ _ _ _ w.read.ensures c.before.before.a.given.1).2 in omega arith
+array-share-prefix-word : tie.Need-slice_bounds-word-end
+array-share-prefix-word c = let w = c in let h = (read-wrote c.args.lines.now _ _ _ _ c.read-a.ensures c.in-Wrote.is).2 in omega arith
 
-slice-aggregate-put-word : tie.Need-slice-aggregate-put-word
-slice-aggregate-put-word c = let w = c.before.before.before.before.before.before in let h = (read-wrote c.before.before.before.before.before.before.before.before.before.before.before.args.lines.now _ _ _ _ w.read.ensures c.before.before.before.a.given.1).2 in sym (length-take-le _ _ (omega arith))
+slice-aggregate-put-word : tie.Need-slice_bounds-put_word-end
+slice-aggregate-put-word c = let w = c in let h = (read-wrote c.args.lines.now _ _ _ _ c.read-a.ensures c.in-Wrote.is).2 in sym (length-take-le _ _ (omega arith))
 
-put-word-requires : tie.Need-put-word-requires
-put-word-requires c κs = take-most c.before.before.before.a.given.0.0 65536 c.before.before.before.before.before.before.read.new.1.0 (omega arith)
+put-word-requires : tie.Need-put_word-requires
+put-word-requires c κs = take-most c.in-Wrote.n 65536 c.read-a.new.1.0 (omega arith)
 
-enum-known-a-2 : tie.Need-enum-known-a-2
+enum-known-a-2 : tie.Need-enum_known-a-in-Refused-1
 enum-known-a-2 c = search rules
 
 number-requires : tie.Need-number-requires
 number-requires c κs = search rules
 
-put-refusal-requires : tie.Need-put-refusal-requires
+put-refusal-requires : tie.Need-put_refusal-requires
 put-refusal-requires c κs = search rules
 
-same_length : tie.Need-same-length
+same_length : tie.Need-shape_of-out-in-Wrote
 same_length c = search rules
 
-returns : tie.Need-returns
+returns : tie.Need-returns-in-Wrote
 returns c =
-    let h = read-wrote c.before.before.before.before.before.before.before.before.before.before.before.before.before.before.args.lines.now _ _ _ _ c.before.before.before.before.before.before.before.before.before.read.ensures c.before.before.before.before.before.before.a.given.1 in
-    rw h.0 (rw h.1 at c.before.before.put_word.ensures)
+    let h = read-wrote c.args.lines.now _ _ _ _ c.read-a.ensures c.in-Wrote.is in
+    rw h.0 (rw h.1 at c.put_word.ensures)
 
-same-length-2 : tie.Need-same-length-2
+same-length-2 : tie.Need-shape_of-out-in-Refused
 same-length-2 c = search rules
 
-returns-2 : tie.Need-returns-2
+returns-2 : tie.Need-returns-in-Refused
 returns-2 c =
-    let s = c.before.before.before.before.before.before.before.before.before.before.before.before.before.before in
-    let w = c.before.before.before.before.before.before.before.before.before in
-    let h = read-refused s.args.lines.now c.before.before.before.before.before.before.a2.given.0.0 s.requires _ (let e = c.before.before.before.before.before.before.before.before.before.before.before.word-buffer.ensures in omega arith) (sym c.before.before.before.before.before.before.a2.given.1 ∙ w.read.ensures.answers) in
-    rw h.0 (weaken 65537 (omega arith) (rw (c.before.before.before.number.ensures ∙ h.1) at c.before.before.put-refusal.ensures))
+    let s = c in
+    let w = c in
+    let h = read-refused c.args.lines.now c.in-Refused.f c.requires _ (let e = c.word_buffer-word.ensures in omega arith) (sym c.in-Refused.is ∙ c.read-a.ensures.answers) in
+    rw h.0 (weaken 65537 (omega arith) (rw (c.number.ensures ∙ h.1) at c.put_refusal.ensures))
 
-pub put-lines-word-spec : {M : Type 1} → statement M
-put-lines-word-spec =
+pub put_lines_word_spec : {M : Type 1} → statement M
+put_lines_word_spec =
     tie.close
     (tie.spec
     word-buffer-requires

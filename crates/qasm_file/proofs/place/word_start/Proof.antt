@@ -9,55 +9,41 @@ use borrow.Author.Rules.{rules}
 use Rattle.qasm_file.proofs.place.word_start.Statement.{statement}
 use Rattle.qasm_file.proofs.place.word_start.Tie as tie
 
-sub-if1 : tie.Need-overflow-sub-if1
+sub-if1 : tie.Need-overflow_sub-s
 sub-if1 c = search rules
 
-returns : tie.Need-returns
-returns c = (word-short c.before.before.args.s.now c.before.before.args.at (omega arith) c.if1.true, omega arith)
+returns : tie.Need-returns-then-s-at-lt5
+returns c = (word-short c.args.s.now c.args.at (omega arith) c.if-s-at-lt5.true, omega arith)
 
-add-end : tie.Need-overflow-add-end
+add-end : tie.Need-overflow_add-end
 add-end c = search rules
 
-sub_same : tie.Need-overflow-sub-same
+sub_same : tie.Need-slice_bounds-same-count
 sub_same c = search rules
 
-part-same-start : tie.Need-slice-bounds-same-start
+part-same-start : tie.Need-slice_bounds-same-start
 part-same-start c = search rules
 
-part-same-end : tie.Need-slice-bounds-same-end
+part-same-end : tie.Need-slice_bounds-same-end
 part-same-end c = search rules
-
-slice-aggregate-same : tie.Need-slice-aggregate-same
-slice-aggregate-same c = search rules
 
 same-requires : tie.Need-same-requires
 same-requires c κs = search rules
 
-returns-2 : tie.Need-returns-2
+returns-2 : tie.Need-returns-then-same
 returns-2 c =
-    let s = c.before.before.before.before.before.before in
-    let r = c.before in
-    let e : s.args.at + 5 - s.args.at ≡ 5 = omega arith in
-    (word-there s.args.s.now s.args.at (sym (tested (take 5 (drop s.args.at s.args.s.now)) (119 ∷ 111 ∷ 114 ∷ 100 ∷ 32 ∷ []) r.same.result (rw e at r.same.ensures)) ∙ c.if2.true), omega arith)
+    let s = c in
+    let r = c in
+    let e : c.args.at + 5 - c.args.at ≡ 5 = omega arith in
+    (word-there c.args.s.now c.args.at (sym (tested (take 5 (drop c.args.at c.args.s.now)) (119 ∷ 111 ∷ 114 ∷ 100 ∷ 32 ∷ []) c.same.result (rw e at c.same.ensures)) ∙ c.if-same.true), omega arith)
 
-returns-3 : tie.Need-returns-3
+returns-3 : tie.Need-returns-else-same
 returns-3 c =
-    let s = c.before.before.before.before.before.before in
-    let r = c.before in
-    let e : s.args.at + 5 - s.args.at ≡ 5 = omega arith in
-    (word-not s.args.s.now s.args.at (sym (tested (take 5 (drop s.args.at s.args.s.now)) (119 ∷ 111 ∷ 114 ∷ 100 ∷ 32 ∷ []) r.same.result (rw e at r.same.ensures)) ∙ c.if2.false), omega arith)
+    let s = c in
+    let r = c in
+    let e : c.args.at + 5 - c.args.at ≡ 5 = omega arith in
+    (word-not c.args.s.now c.args.at (sym (tested (take 5 (drop c.args.at c.args.s.now)) (119 ∷ 111 ∷ 114 ∷ 100 ∷ 32 ∷ []) c.same.result (rw e at c.same.ensures)) ∙ c.if-same.false), omega arith)
 
-pub word-start-spec : {M : Type 1} → statement M
-word-start-spec =
-    tie.close
-    (tie.spec
-    sub-if1
-    returns
-    add-end
-    sub_same
-    part-same-start
-    part-same-end
-    slice-aggregate-same
-    same-requires
-    returns-2
-    returns-3)
+pub word_start_spec : {M : Type 1} → statement M
+word_start_spec =
+    tie.close (tie.spec sub-if1 returns add-end sub_same part-same-start part-same-end same-requires returns-2 returns-3)
