@@ -5,32 +5,32 @@ use borrow.Author.Rules.{rules}
 use Rattle.question.proofs.has_solution.Statement.{statement}
 use Rattle.question.proofs.has_solution.Tie as tie
 
-glance-requires : tie.Need-glance-requires
+glance-requires : tie.Need-glance-k-requires
 glance-requires c κs = search rules
 
-enum_told : tie.Need-enum-told
+enum_told : tie.Need-enum_told-1
 enum_told c = search rules
 
-enum-told-2 : tie.Need-enum-told-2
+enum-told-2 : tie.Need-enum_told-in-Nothing
 enum-told-2 c = search rules
 
-enum-told-3 : tie.Need-enum-told-3
+enum-told-3 : tie.Need-enum_told-in-Tired
 enum-told-3 c = search rules
 
 searched-requires : tie.Need-searched-requires
 searched-requires c κs = search rules
 
-returns : tie.Need-returns
-returns c = sym (ap not (c.before.before.glance.ensures.found c.enum_told.given.1))
+returns : tie.Need-returns-in-Found
+returns c = sym (ap not (c.glance-k.ensures.found c.in-Found.is))
 
-returns-2 : tie.Need-returns-2
-returns-2 c = sym (ap not (ap is_nil (c.before.before.glance.ensures.nothing _ c.enum-told2.given.1)))
+returns-2 : tie.Need-returns-in-Nothing
+returns-2 c = sym (ap not (ap is_nil (c.glance-k.ensures.nothing _ c.in-Nothing.is)))
 
-returns-3 : tie.Need-returns-3
+returns-3 : tie.Need-returns-in-Tired
 returns-3 c = search rules
 
-pub has-solution-spec : {M : Type 1} → statement M
-has-solution-spec =
+pub has_solution_spec : {M : Type 1} → statement M
+has_solution_spec =
     tie.close
     (tie.spec
     glance-requires

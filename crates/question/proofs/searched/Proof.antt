@@ -6,42 +6,42 @@ use Rattle.question.specs.lemmas.Void.{void_first, void_second}
 use Rattle.question.proofs.searched.Statement.{statement}
 use Rattle.question.proofs.searched.Tie as tie
 
-is-accepted-requires : tie.Need-is-accepted-requires
+is-accepted-requires : tie.Need-is_accepted-requires
 is-accepted-requires c κs = search rules
 
-returns : tie.Need-returns
-returns c = refused_none c.before.before.args.job (sym c.before.is-accepted.ensures ∙ not-true _ c.if1.true)
+returns : tie.Need-returns-then-not-is_accepted
+returns c = refused_none c.args.job (sym c.is_accepted.ensures ∙ not-true _ c.if-not-is_accepted.true)
 
-is-void-requires : tie.Need-is-void-requires
+is-void-requires : tie.Need-is_void-requires
 is-void-requires c κs = search rules
 
-returns-2 : tie.Need-returns-2
-returns-2 c = void_first c.before.before.before.before.args.job (sym c.before.is-void.ensures ∙ c.if2.true)
+returns-2 : tie.Need-returns-then-is_void
+returns-2 c = void_first c.args.job (sym c.is_void.ensures ∙ c.if-is_void.true)
 
-is-void-requires-2 : tie.Need-is-void-requires-2
+is-void-requires-2 : tie.Need-is_void-requires-2
 is-void-requires-2 c κs = search rules
 
-returns-3 : tie.Need-returns-3
-returns-3 c = void_second c.before.before.before.before.before.before.args.job (sym c.before.is-void2.ensures ∙ c.if3.true)
+returns-3 : tie.Need-returns-then-is_void-2
+returns-3 c = void_second c.args.job (sym c.is_void-2.ensures ∙ c.if-is_void-2.true)
 
-in-force-requires : tie.Need-in-force-requires
-in-force-requires c κs = let e = c.before.before.before.before in sym e.before.is-accepted.ensures ∙ not-false _ e.if1.false
+in-force-requires : tie.Need-in_force-requires
+in-force-requires c κs = let e = c in sym c.is_accepted.ensures ∙ not-false _ c.if-not-is_accepted.false
 
 oriented-requires : tie.Need-oriented-requires
 oriented-requires c κs =
-    let e = c.before.before.before.before.before in
-    (sym e.before.is-accepted.ensures ∙ not-false _ e.if1.false, c.in-force.ensures)
+    let e = c in
+    (sym c.is_accepted.ensures ∙ not-false _ c.if-not-is_accepted.false, c.in_force.ensures)
 
 settled-requires : tie.Need-settled-requires
 settled-requires c κs =
-    let e = c.before.before.before.before.before.before in
-    (sym e.before.is-accepted.ensures ∙ not-false _ e.if1.false, c.oriented.ensures)
+    let e = c in
+    (sym c.is_accepted.ensures ∙ not-false _ c.if-not-is_accepted.false, c.oriented.ensures)
 
-returns-4 : tie.Need-returns-4
+returns-4 : tie.Need-returns
 returns-4 c = search rules
 
-pub searched-spec : {M : Type 1} → statement M
-searched-spec =
+pub searched_spec : {M : Type 1} → statement M
+searched_spec =
     tie.close
     (tie.spec
     is-accepted-requires

@@ -56,7 +56,7 @@ loop-again c =
     let row = row-start (l a.before.before.before) Any t q c.start-q.ensures in (
       omega (arith, (searchable a.before.before.before).end-in),
       rows_more (l a.before.before.before) Any t c.loop-t.invariant.1
-          (⊎_elim (λ w. row_done (l a.before.before.before) Any t q (searchable a) row (sym w.1.ensures ∙ w.2.left)) (λ w. row-all (l a) Any t q w.left row) c.if-q-lt-TOP.branch),
+          (⊎_elim (λ w. row_done (l a.before.before.before) Any t q (searchable a.before.before.before) row (sym w.1.ensures ∙ w.2.left)) (λ w. row-all (l a.before.before.before) Any t q w.left row) c.if-q-lt-TOP.branch-raw),
     )
 
 returns-2 : tie.Need-returns invariant-loop decreases-loop

@@ -56,8 +56,8 @@ returns c =
     let a = c in
     let d = a.before.before.before.before.before.before.before in
     let l = simp (to_z-of_z (s-fits d.before.before.before.before.before.before.before), to_z-of_z (t-fits d.before.before.before.before.before.before.before)) at c.combined.ensures in
-    let h = simp (to_z-of_z (s-fits d.before.before.before.before.before.before.before), to_z-of_z (t-fits d)) at c.combined-2.ensures in
-    simp (to_z-of_z (s-fits d), to_z-of_z (t-fits d), to_z-of_z (once d), to_z-of_z (twice d)) (band_ext refl l h)
+    let h = simp (to_z-of_z (s-fits d.before.before.before.before.before.before.before), to_z-of_z (t-fits d.before.before.before.before.before.before.before)) at c.combined-2.ensures in
+    simp (to_z-of_z (s-fits d.before.before.before.before.before.before.before), to_z-of_z (t-fits d.before.before.before.before.before.before.before), to_z-of_z (once d.before.before.before.before.before.before.before), to_z-of_z (twice d.before.before.before.before.before.before.before)) (band_ext refl l h)
 
 pub joined_spec : {M : Type 1} → statement M
 joined_spec =
