@@ -30,7 +30,7 @@ returns-2 c =
     let p = c in
     let e = p.before.before in
     let s = e.before.before.before.before in
-    read-full c.args.text.now c.args.word.now (good e.before.before.before) (sym c.put_word-whole.ensures.0 ∙ not-true _ c.if-not-whole.true) c.put_word-whole.ensures.1
+    read-full c.args.text.now c.args.word.now (good c.before.before.before.before.before) (sym c.put_word-whole.ensures.0 ∙ c.if-not-whole.true) c.put_word-whole.ensures.1
 
 same-length-2 : tie.Need-shape_of-word
 same-length-2 c = search rules
@@ -40,7 +40,7 @@ returns-3 c =
     let p = c in
     let e = p.before.before in
     let s = e.before.before.before.before in
-    read_done c.args.text.now c.args.word.now (good e.before.before.before) (sym c.put_word-whole.ensures.0 ∙ not-false _ c.if-not-whole.false) c.put_word-whole.ensures.1
+    read_done c.args.text.now c.args.word.now (good c.before.before.before.before.before) (sym c.put_word-whole.ensures.0 ∙ c.if-not-whole.false) c.put_word-whole.ensures.1
 
 pub read_spec : {M : Type 1} → statement M
 read_spec =

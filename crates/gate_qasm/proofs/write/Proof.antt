@@ -50,7 +50,7 @@ returns-3 c =
     let e = p.before.before in
     let n = e.before.before in
     let s = e.before.before.before.before.before.before in
-    write_done c.args.word.now c.args.text.now (good e.before.before.before) c.lines_of-n.result c.lines_of-n.ensures (room e) c.put_lines.ensures
+    write_done c.args.word.now c.args.text.now (good c.before.before.before.before.before) c.lines_of-n.result c.lines_of-n.ensures (room c.before.before.before.before) c.put_lines.ensures
 
 pub write_spec : {M : Type 1} → statement M
 write_spec =

@@ -10,7 +10,7 @@ is-accepted-requires : tie.Need-is_accepted-requires
 is-accepted-requires c κs = search rules
 
 returns : tie.Need-returns-then-not-is_accepted
-returns c = refused_none c.args.job (sym c.is_accepted.ensures ∙ not-true _ c.if-not-is_accepted.true)
+returns c = refused_none c.args.job (sym c.is_accepted.ensures ∙ c.if-not-is_accepted.true)
 
 is-void-requires : tie.Need-is_void-requires
 is-void-requires c κs = search rules
@@ -25,17 +25,17 @@ returns-3 : tie.Need-returns-then-is_void-2
 returns-3 c = void_second c.args.job (sym c.is_void-2.ensures ∙ c.if-is_void-2.true)
 
 in-force-requires : tie.Need-in_force-requires
-in-force-requires c κs = let e = c in sym c.is_accepted.ensures ∙ not-false _ c.if-not-is_accepted.false
+in-force-requires c κs = let e = c in sym c.is_accepted.ensures ∙ c.if-not-is_accepted.false
 
 oriented-requires : tie.Need-oriented-requires
 oriented-requires c κs =
     let e = c in
-    (sym c.is_accepted.ensures ∙ not-false _ c.if-not-is_accepted.false, c.in_force.ensures)
+    (sym c.is_accepted.ensures ∙ c.if-not-is_accepted.false, c.in_force.ensures)
 
 settled-requires : tie.Need-settled-requires
 settled-requires c κs =
     let e = c in
-    (sym c.is_accepted.ensures ∙ not-false _ c.if-not-is_accepted.false, c.oriented.ensures)
+    (sym c.is_accepted.ensures ∙ c.if-not-is_accepted.false, c.oriented.ensures)
 
 returns-4 : tie.Need-returns
 returns-4 c = search rules

@@ -32,10 +32,10 @@ loop-holds : tie.Need-loop-t-init invariant-loop decreases-loop
 loop-holds c = (omega (arith, (searchable c).from_in), rows_start (l c) Any (searchable c))
 
 start-requires : tie.Need-start-q-requires invariant-loop decreases-loop
-start-requires c κs = let s = c.before.before in (searchable s, omega (arith, (searchable s).end-in))
+start-requires c κs = let s = c.before.before in (searchable c.before.before, omega (arith, (searchable c.before.before).end-in))
 
 reaches-requires : tie.Need-reaches-requires invariant-loop decreases-loop
-reaches-requires c κs = let s = c.before.before.before.before in (searchable s, omega (arith, (searchable s).end-in), omega arith)
+reaches-requires c κs = let s = c.before.before.before.before in (searchable c.before.before.before.before, omega (arith, (searchable c.before.before.before.before).end-in), omega arith)
 
 returns : tie.Need-returns-then-reaches invariant-loop decreases-loop
 returns c = λ e. absurd (false≢true (sym e))
@@ -53,17 +53,17 @@ loop-again c =
     let a = r.before in
     let t = c.loop-t.t in
     let q = c.start-q.result in
-    let row = row-start (l a.before.before.before) Any t q c.start-q.ensures in (
-      omega (arith, (searchable a.before.before.before).end-in),
-      rows_more (l a.before.before.before) Any t c.loop-t.invariant.1
-          (⊎_elim (λ w. row_done (l a.before.before.before) Any t q (searchable a.before.before.before) row (sym w.1.ensures ∙ w.2.left)) (λ w. row-all (l a.before.before.before) Any t q w.left row) c.if-q-lt-TOP.branch-raw),
+    let row = row-start (l c.before.before.before.before) Any t q c.start-q.ensures in (
+      omega (arith, (searchable c.before.before.before.before).end-in),
+      rows_more (l c.before.before.before.before) Any t c.loop-t.invariant.1
+          (⊎_elim (λ w. row_done (l c.before.before.before.before) Any t q (searchable c.before.before.before.before) row (sym w.reaches.ensures ∙ w.if-reaches.false)) (λ w. row-all (l c.before.before.before.before) Any t q w.if-q-lt-TOP.false row) c.if-q-lt-TOP.branch-raw),
     )
 
 returns-2 : tie.Need-returns invariant-loop decreases-loop
 returns-2 c =
     let r = c in
     let a = r.before in
-    λ e. record { none = λ t q i k m. c.loop-t.invariant.1 t q (before ((searchable a.before).rows t q i m).1 c.loop-t-test.false) i k m tt }
+    λ e. record { none = λ t q i k m. c.loop-t.invariant.1 t q (before ((searchable c.before.before).rows t q i m).1 c.loop-t-test.false) i k m tt }
   where
     before : {a e t : ℕ} → a < e → e ≤ t → a < t
     before i j = omega arith

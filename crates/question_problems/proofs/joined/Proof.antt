@@ -36,28 +36,28 @@ module _ (c : tie.Start) where
   twice = size→fits (omega (arith, size-*≤ (pos 2) (s.m *ℤ t.m) 2 (100 * 100) (omega arith) size))
 
 mul-t3 : tie.Need-overflow_mul-result
-mul-t3 c = let d = c.before.before.before.before in simp (to_z-of_z (s-fits d), to_z-of_z (t-fits d)) (once d)
+mul-t3 c = let d = c.before.before.before.before in simp (to_z-of_z (s-fits c.before.before.before.before), to_z-of_z (t-fits c.before.before.before.before)) (once c.before.before.before.before)
 
 mul-t4 : tie.Need-overflow_mul-result-2
-mul-t4 c = let d = c.before.before.before.before in simp (to_z-of_z (s-fits d), to_z-of_z (t-fits d), to_z-of_z (once d)) (twice d)
+mul-t4 c = let d = c.before.before.before.before in simp (to_z-of_z (s-fits c.before.before.before.before), to_z-of_z (t-fits c.before.before.before.before), to_z-of_z (once c.before.before.before.before)) (twice c.before.before.before.before)
 
 combined-requires : tie.Need-combined-requires
 combined-requires c κs =
     let d = c.before.before.before.before.before.before.before.before in
-    simp (to_z-of_z (s-fits d), to_z-of_z (t-fits d)) (room (t d).m (s d).m (s d).lo (t d).lo 100 end_size 100 end_size c.requires.1.scale c.requires.0.lo c.requires.0.scale c.requires.1.lo (omega arith))
+    simp (to_z-of_z (s-fits c.before.before.before.before.before.before.before.before), to_z-of_z (t-fits c.before.before.before.before.before.before.before.before)) (room (t c.before.before.before.before.before.before.before.before).m (s c.before.before.before.before.before.before.before.before).m (s c.before.before.before.before.before.before.before.before).lo (t c.before.before.before.before.before.before.before.before).lo 100 end_size 100 end_size c.requires.1.scale c.requires.0.lo c.requires.0.scale c.requires.1.lo (omega arith))
 
 combined-requires-2 : tie.Need-combined-requires-2
 combined-requires-2 c κs =
     let d = c.before.before.before.before.before.before.before.before.before.before.before.before.before in
-    simp (to_z-of_z (s-fits d), to_z-of_z (t-fits d)) (room (t d).m (s d).m (s d).hi (t d).hi 100 end_size 100 end_size c.requires.1.scale c.requires.0.hi c.requires.0.scale c.requires.1.hi (omega arith))
+    simp (to_z-of_z (s-fits c.before.before.before.before.before.before.before.before.before.before.before.before.before), to_z-of_z (t-fits c.before.before.before.before.before.before.before.before.before.before.before.before.before)) (room (t c.before.before.before.before.before.before.before.before.before.before.before.before.before).m (s c.before.before.before.before.before.before.before.before.before.before.before.before.before).m (s c.before.before.before.before.before.before.before.before.before.before.before.before.before).hi (t c.before.before.before.before.before.before.before.before.before.before.before.before.before).hi 100 end_size 100 end_size c.requires.1.scale c.requires.0.hi c.requires.0.scale c.requires.1.hi (omega arith))
 
 returns : tie.Need-returns
 returns c =
     let a = c in
     let d = a.before.before.before.before.before.before.before in
-    let l = simp (to_z-of_z (s-fits d.before.before.before.before.before.before.before), to_z-of_z (t-fits d.before.before.before.before.before.before.before)) at c.combined.ensures in
-    let h = simp (to_z-of_z (s-fits d.before.before.before.before.before.before.before), to_z-of_z (t-fits d.before.before.before.before.before.before.before)) at c.combined-2.ensures in
-    simp (to_z-of_z (s-fits d.before.before.before.before.before.before.before), to_z-of_z (t-fits d.before.before.before.before.before.before.before), to_z-of_z (once d.before.before.before.before.before.before.before), to_z-of_z (twice d.before.before.before.before.before.before.before)) (band_ext refl l h)
+    let l = simp (to_z-of_z (s-fits c.before.before.before.before.before.before.before.before.before.before.before.before.before.before), to_z-of_z (t-fits c.before.before.before.before.before.before.before.before.before.before.before.before.before.before)) at c.combined.ensures in
+    let h = simp (to_z-of_z (s-fits c.before.before.before.before.before.before.before.before.before.before.before.before.before.before), to_z-of_z (t-fits c.before.before.before.before.before.before.before.before.before.before.before.before.before.before)) at c.combined-2.ensures in
+    simp (to_z-of_z (s-fits c.before.before.before.before.before.before.before.before.before.before.before.before.before.before), to_z-of_z (t-fits c.before.before.before.before.before.before.before.before.before.before.before.before.before.before), to_z-of_z (once c.before.before.before.before.before.before.before.before.before.before.before.before.before.before), to_z-of_z (twice c.before.before.before.before.before.before.before.before.before.before.before.before.before.before)) (band_ext refl l h)
 
 pub joined_spec : {M : Type 1} → statement M
 joined_spec =

@@ -29,7 +29,7 @@ with-rows-requires c κs =
     let b = f in
     let s = b in
     let e = c.scaled-t.ensures in
-    let z = c.fits2.ensures c.if-fits.true in (
+    let z = c.fits.ensures c.if-fits.true in (
       record { one = subst (λ (t : Strips). pos 1 ≼ t.first.m) (sym e) c.requires.0.one; scale = subst (λ (t : Strips). nat_abs t.first.m ≤ 100) (sym e) c.requires.0.scale; lo = z.0.0; hi = z.0.1 },
       record { one = subst (λ (t : Strips). pos 1 ≼ t.second.m) (sym e) c.requires.1.one; scale = subst (λ (t : Strips). nat_abs t.second.m ≤ 100) (sym e) c.requires.1.scale; lo = z.1.0; hi = z.1.1 },
       subst (λ u. Sized (2 ^ 17) (2 ^ 17) u) (sym c.conjugate.ensures) (conj_size (2 ^ 17) c.balance-u.result c.balance-u.ensures.size),

@@ -12,44 +12,44 @@ use Rattle.walk.specs.lemmas.Hand.{none-at, gave_none}
 use Rattle.walk.proofs.hand_out_of.Statement.{statement}
 use Rattle.walk.proofs.hand_out_of.Tie as tie
 
-enum-known-p : tie.Need-enum-known-p
+enum-known-p : tie.Need-enum_known-p
 enum-known-p c = search rules
 
-enum-known-from : tie.Need-enum-known-from
+enum-known-from : tie.Need-enum_known-from
 enum-known-from c = search rules
 
 deal-requires : tie.Need-deal-requires
 deal-requires c κs =
-    let p = c.before.before.before.before.before in
-    subst Prepares p.p.given.1 p.before.before.requires
+    let p = c in
+    subst Prepares c.in-Accepted.is c.requires
 
-same_length : tie.Need-same-length
+same_length : tie.Need-shape_of-out-in-At
 same_length c = search rules
 
-returns : tie.Need-returns
+returns : tie.Need-returns-in-At
 returns c =
-    let f = c.before.before.before.before in
-    let p = f.before.before.before in
-    rw (p.p.given.1, ap spot_of f.from.given.1) c.before.deal.ensures
+    let f = c in
+    let p = f in
+    rw (c.in-Accepted.is, ap spot_of c.in-At.is) c.deal.ensures
 
-enum_told : tie.Need-enum-told
+enum_told : tie.Need-enum_told-1
 enum_told c = search rules
 
-enum-told-2 : tie.Need-enum-told-2
+enum-told-2 : tie.Need-enum_told-in_default
 enum-told-2 c = search rules
 
-returns-2 : tie.Need-returns-2
+returns-2 : tie.Need-returns-in_default-from
 returns-2 c =
-    let s = c.before.before.before.before.before in
-    gave_none _ _ _ (ap (λ w. left_at (listed_at (job_of s.args.p)) (top span) (spot_of w)) c.enum_told.given.1)
+    let s = c in
+    gave_none _ _ _ (ap (λ w. left_at (listed_at (job_of c.args.p)) (top span) (spot_of w)) c.in_default-from.is)
 
-returns-3 : tie.Need-returns-3
+returns-3 : tie.Need-returns-in_default
 returns-3 c =
-    let s = c.before.before in
-    let j = c.enum-told2.given.0.0 in
-    let e : s.args.p ≡ P.Refused j = c.enum-told2.given.1 in
-    let n = subst Prepares e s.requires in
-    gave_none _ _ _ (rw e (none-at j (λ v. unsolved j v (sym (not_accepted j v n))) (spot_of s.args.from)))
+    let s = c in
+    let j = c.in_default.field-0 in
+    let e : c.args.p ≡ P.Refused j = c.in_default.is in
+    let n = subst Prepares e c.requires in
+    gave_none _ _ _ (rw e (none-at j (λ v. unsolved j v (sym (not_accepted j v n))) (spot_of c.args.from)))
 
-pub hand-out-of-spec : {M : Type 1} → statement M
-hand-out-of-spec = tie.close (tie.spec enum-known-p enum-known-from deal-requires same_length returns enum_told enum-told-2 returns-2 returns-3)
+pub hand_out_of_spec : {M : Type 1} → statement M
+hand_out_of_spec = tie.close (tie.spec enum-known-p enum-known-from deal-requires same_length returns enum_told enum-told-2 returns-2 returns-3)

@@ -76,8 +76,8 @@ loop-less c = search rules
 loop-again : tie.Need-loop-i-preserved invariant-loop decreases-loop
 loop-again c =
     let t = c in
-    let w = within t.before in
-    (omega arith, letter-more (text t.before) (start t.before).args.word.now c.loop-i.i c.letter.result c.loop-i.word (omega arith) (omega arith) c.loop-i.invariant.1 c.letter.ensures)
+    let w = within c.before.before.before.before in
+    (omega arith, letter-more (text c.before.before.before.before) (start c.before.before.before.before).args.word.now c.loop-i.i c.letter.result c.loop-i.word (omega arith) (omega arith) c.loop-i.invariant.1 c.letter.ensures)
 
 same_length : tie.Need-shape_of-word invariant-loop decreases-loop
 same_length c = long c.before
@@ -86,12 +86,12 @@ returns : tie.Need-returns invariant-loop decreases-loop
 returns c =
     let t = c in
     let j = t.before in
-    let w = within j in (
+    let w = within c.before.before in (
       refl,
       ⊎_elim
-          (λ h. word-all (text j) (start j).args.word.now h.0 c.loop-i.i c.loop-i.word (omega arith) c.loop-i.invariant.1)
-          (λ h. word_none (text j) (start j).args.word.now h.0 c.loop-i.i c.loop-i.word (omega arith) c.loop-i.invariant.1)
-          (whole j),
+          (λ h. word-all (text c.before.before) (start c.before.before).args.word.now h.0 c.loop-i.i c.loop-i.word (omega arith) c.loop-i.invariant.1)
+          (λ h. word_none (text c.before.before) (start c.before.before).args.word.now h.0 c.loop-i.i c.loop-i.word (omega arith) c.loop-i.invariant.1)
+          (whole c.before.before),
     )
 
 pub put_word_spec : {M : Type 1} → statement M

@@ -28,7 +28,7 @@ line-of-requires : tie.Need-line_of-n-requires invariant-loop decreases-loop
 line-of-requires c κs = search rules
 
 add-n : tie.Need-overflow_add-n invariant-loop decreases-loop
-add-n c = omega (arith, c.LineOf.ensures.1)
+add-n c = omega (arith, c.line_of-n.ensures.1)
 
 loop-less : tie.Need-loop-i-smaller invariant-loop decreases-loop
 loop-less c = search rules
@@ -37,7 +37,7 @@ loop-again : tie.Need-loop-i-preserved invariant-loop decreases-loop
 loop-again c =
     let l = c in
     let w = c.args.word.now in
-    (omega (arith, c.LineOf.ensures.1), omega (arith, c.LineOf.ensures.0, length_back w c.loop-i.i (omega arith) (omega arith)))
+    (omega (arith, c.line_of-n.ensures.1), omega (arith, c.line_of-n.ensures.0, length_back w c.loop-i.i (omega arith) (omega arith)))
 
 returns : tie.Need-returns invariant-loop decreases-loop
 returns c =

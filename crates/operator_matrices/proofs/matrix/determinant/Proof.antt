@@ -16,7 +16,7 @@ pairs-requires c κs = search (rules, c.requires, neg_bounded)
 returns : tie.Need-returns
 unfolding determinant_of
 returns c =
-    let m = c.args.t1 in
+    let m = c.args.m in
     c.pairs.ensures ∙ ap (λ (u : Entry). pairs (at m 0 0) (at m 1 1) u (at m 1 0)) c.negated.ensures ∙ pairs-neg (at m 0 0) (at m 1 1) (at m 0 1) (at m 1 0)
 
 bounds-m-0 : tie.Need-bounds-m-0

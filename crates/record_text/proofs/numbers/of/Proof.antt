@@ -76,25 +76,25 @@ element-copy-out-f : tie.Need-bounds-form-i invariant-loop decreases-loop
 element-copy-out-f c = let f = few (formed c) in let h = c.loop-i-test.true in omega arith
 
 number-requires : tie.Need-number-requires invariant-loop decreases-loop
-number-requires c κs = let l = c.before in (reads l, (let e = sized l in let h = c.loop-i.invariant.3 in omega arith))
+number-requires c κs = let l = c.before in (reads c.before, (let e = sized c.before in let h = c.loop-i.invariant.3 in omega arith))
 
 mul-values : tie.Need-offset_bounds-values-i invariant-loop decreases-loop
-mul-values c = let l = c.before.before in let f = few (formed l) in let h = c.loop-i-test.true in omega arith
+mul-values c = let l = c.before.before in let f = few (formed c.before.before) in let h = c.loop-i-test.true in omega arith
 
 array-set-from-values : tie.Need-bounds-values-i invariant-loop decreases-loop
-array-set-from-values c = let l = c.before.before in let f = few (formed l) in let h = c.loop-i-test.true in omega arith
+array-set-from-values c = let l = c.before.before in let f = few (formed c.before.before) in let h = c.loop-i-test.true in omega arith
 
 add_at : tie.Need-overflow_add-at invariant-loop decreases-loop
 add_at c =
     let l = c.before.before.before in
-    let f = few (formed l) in
+    let f = few (formed c.before.before.before) in
     let h = c.loop-i-test.true in
-    let m = (reads l).most in
+    let m = (reads c.before.before.before).most in
     let a = c.loop-i.invariant.2 in
     omega arith
 
 add-i : tie.Need-overflow_add-i invariant-loop decreases-loop
-add-i c = let l = c.before.before.before in let f = few (formed l) in let h = c.loop-i-test.true in omega arith
+add-i c = let l = c.before.before.before in let f = few (formed c.before.before.before) in let h = c.loop-i-test.true in omega arith
 
 loop-less : tie.Need-loop-i-smaller invariant-loop decreases-loop
 loop-less c = let h = c.loop-i-test.true in omega arith
@@ -104,18 +104,18 @@ loop-again c =
     let n = c in
     let l = n.before.before in
     let t = l.before in
-    let f = formed l.before in
+    let f = formed c.before.before.before in
     let s = f.before.before.args.s.now in
     let h = c.loop-i-test.true in
     let k = few f in
     let w = c.loop-i.invariant.1 in
     let next =
-    subst (λ (g : Field). take (i l.before + 1) (set c.loop-i.values (i l.before) (number_at g s c.loop-i.at)) ++ numbers_at (drop (i l.before + 1) (fields f)) s (c.loop-i.at + g.size) ≡ numbers_at (fields f) s 0) (same l.before)
-    (numbers-next (fields f) (i l.before) (u 0) (here l.before) s c.loop-i.at c.loop-i.values _ (omega arith) c.loop-i.invariant.4) in (
+    subst (λ (g : Field). take (i c.before.before.before + 1) (set c.loop-i.values (i c.before.before.before) (number_at g s c.loop-i.at)) ++ numbers_at (drop (i c.before.before.before + 1) (fields f)) s (c.loop-i.at + g.size) ≡ numbers_at (fields f) s 0) (same c.before.before.before)
+    (numbers-next (fields f) (i c.before.before.before) (u 0) (here c.before.before.before) s c.loop-i.at c.loop-i.values _ (omega arith) c.loop-i.invariant.4) in (
       omega arith,
-      length-set c.loop-i.values (i l.before) _ ∙ w,
-      (let m = (reads l.before).most in let a = c.loop-i.invariant.2 in omega arith),
-      (let e = sized l.before in let b = c.loop-i.invariant.3 in omega arith),
+      length-set c.loop-i.values (i c.before.before.before) _ ∙ w,
+      (let m = (reads c.before.before.before).most in let a = c.loop-i.invariant.2 in omega arith),
+      (let e = sized c.before.before.before in let b = c.loop-i.invariant.3 in omega arith),
       rw (back w64 c.number.type_inv, c.number.ensures) next,
     )
 
@@ -123,13 +123,13 @@ returns : tie.Need-returns invariant-loop decreases-loop
 returns c =
     let t = c in
     let f = t.before in
-    let l = long f.before in
+    let l = long c.before.before in
     let h = c.loop-i-test.false in
     let b = c.loop-i.invariant.0 in
-    let k = few f.before in
+    let k = few c.before.before in
     let e : c.form_of-form.result.count ≡ c.loop-i.i = omega arith in (
-      ap (λ (n : ℕ). take n c.loop-i.values) e ∙ numbers-done (fields f.before) c.loop-i.i _ c.loop-i.at c.loop-i.values _ (omega arith) c.loop-i.invariant.4
-          ∙ ap (λ (l : List Field). numbers_at l c.args.s.now 0) (is f.before),
+      ap (λ (n : ℕ). take n c.loop-i.values) e ∙ numbers-done (fields c.before.before) c.loop-i.i _ c.loop-i.at c.loop-i.values _ (omega arith) c.loop-i.invariant.4
+          ∙ ap (λ (l : List Field). numbers_at l c.args.s.now 0) (is c.before.before),
       omega arith,
       c.loop-i.invariant.1,
     )
