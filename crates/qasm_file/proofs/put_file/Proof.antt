@@ -21,7 +21,7 @@ returns : tie.Need-returns-then-bytes-gt65536
 returns c =
     let s = c in
     let p = c in
-    rw (lt-ltb 65536 (length c.args.bytes.now) (omega arith)) (one c.args.out.now 0 too_long_line c.put_too_long.new.0 c.put_too_long.result 524335 (lit≤ tt) c.put_too_long.ensures)
+    rw (lt-ltb 65536 (length c.args.bytes.now) (omega arith)) (one c.args.out.now 0 too_long_line c.put_too_long.new.out c.put_too_long.result 524335 (lit≤ tt) c.put_too_long.ensures)
 
 end-of-requires : tie.Need-end_of-end-requires
 end-of-requires c κs = search rules

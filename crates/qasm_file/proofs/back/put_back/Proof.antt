@@ -20,7 +20,7 @@ returns : tie.Need-returns-then-bytes-gt524335
 returns c =
     let s = c in
     let p = c in
-    rw (lt-ltb 524335 (length c.args.bytes.now) (omega arith)) (one c.args.out.now 0 too_long_line c.put_too_long.new.0 c.put_too_long.result 65537 (lit≤ tt) c.put_too_long.ensures)
+    rw (lt-ltb 524335 (length c.args.bytes.now) (omega arith)) (one c.args.out.now 0 too_long_line c.put_too_long.new.out c.put_too_long.result 65537 (lit≤ tt) c.put_too_long.ensures)
 
 begins-requires : tie.Need-begins-requires
 begins-requires c κs = search rules
@@ -35,13 +35,13 @@ returns-2 : tie.Need-returns-then-not-begins
 returns-2 c =
     let s = c in
     let b = c in
-    rw (le-ltb 524335 (length c.args.bytes.now) (omega arith), sym c.begins.ensures.0 ∙ not-true _ c.if-not-begins.true) (weaken 65537 (omega arith) c.put_refusal.ensures)
+    rw (le-ltb 524335 (length c.args.bytes.now) (omega arith), sym c.begins.ensures.0 ∙ c.if-not-begins.true) (weaken 65537 (omega arith) c.put_refusal.ensures)
 
 sub-put-lines-word : tie.Need-slice_bounds-put_lines_word-count
-sub-put-lines-word c = let h = c.begins.ensures.1 (not-false _ c.if-not-begins.false) in omega arith
+sub-put-lines-word c = let h = c.begins.ensures.1 (c.if-not-begins.false) in omega arith
 
 part-put-lines-word-start : tie.Need-slice_bounds-put_lines_word-start
-part-put-lines-word-start c = let h = c.begins.ensures.1 (not-false _ c.if-not-begins.false) in omega arith
+part-put-lines-word-start c = let h = c.begins.ensures.1 (c.if-not-begins.false) in omega arith
 
 part-put-lines-word-end : tie.Need-slice_bounds-put_lines_word-end
 part-put-lines-word-end c = search rules
@@ -56,7 +56,7 @@ returns-3 : tie.Need-returns
 returns-3 c =
     let s = c in
     let b = c in
-    rw (le-ltb 524335 (length c.args.bytes.now) (omega arith), sym c.begins.ensures.0 ∙ not-false _ c.if-not-begins.false) (rw (take_rest c.args.bytes.now 47) at c.put_lines_word.ensures)
+    rw (le-ltb 524335 (length c.args.bytes.now) (omega arith), sym c.begins.ensures.0 ∙ c.if-not-begins.false) (rw (take_rest c.args.bytes.now 47) at c.put_lines_word.ensures)
 
 pub put_back_spec : {M : Type 1} → statement M
 put_back_spec =
