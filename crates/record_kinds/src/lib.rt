@@ -72,6 +72,7 @@ pub enum Admission {
 }
 
 // What is refused before the body is read, in the order 2, 8, 3.
+#[tactic(auto, unfolding(crate::specs::Kinds::admission_of))]
 pub fn admit(known: bool, fits: bool, short: bool) -> Admission
     ensures { result ≡ admission_of known fits short }
 {
