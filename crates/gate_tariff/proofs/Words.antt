@@ -11,7 +11,7 @@ use lib.ListN.{length, get_or, take, drop, length-drop, drop_of_length-le}
 use lib.Seq.{drop-cons, drop-drop, take-length, get_or-drop}
 use borrow.Author.Tests.{eqb-true, eq-eqb, ne_eqb, leb-true, le-leb, lt-leb}
 use Rattle.integers.specs.lemmas.Booleans.{both_true}
-use Rattle.bytes.specs.Bytes.{slice, index_after, index_of}
+use Rattle.gate_tariff.specs.Index.{index_after, index_of}
 use Rattle.gate_tariff.specs.declared.Tariff.{Tariff}
 use Rattle.gate_tariff.specs.declared.Refusal.{Refusal}
 use Rattle.gate_tariff.specs.declared.Refusal.TheVariants.{OutOfRange, NotATray}
@@ -121,13 +121,7 @@ module _ (s : List ℕ) where
       go false f e = absurd (z e)
 
 -- ---- the next word: up to the next line feed
-module _ (s : List ℕ) (at end : ℕ) (f : get_or s (length s - 1) 0 ≡ 10) (h : at < length s) (e : end ≡ at + index_of 10 (slice at (length s) s)) where
-  part : slice at (length s) s ≡ drop at s
-  unfolding slice
-  part = ap (drop at) (take-length s)
-
-  place : end ≡ at + index_of 10 (drop at s)
-  place = e ∙ ap (λ (l : List ℕ). at + index_of 10 l) part
+module _ (s : List ℕ) (at end : ℕ) (f : get_or s (length s - 1) 0 ≡ 10) (h : at < length s) (place : end ≡ at + index_of 10 (drop at s)) where
 
   found : index_of 10 (drop at s) < length (drop at s)
   found =
@@ -136,11 +130,10 @@ module _ (s : List ℕ) (at end : ℕ) (f : get_or s (length s - 1) 0 ≡ 10) (h
       index-last (drop at s) (omega arith) (get_or-drop at s (length (drop at s) - 1) 0 ∙ ap (λ (j : ℕ). get_or s j 0) k ∙ f)
 
   pub end-inside : (at ≤ end) × (end < length s)
-  end-inside = let n = length-drop at s in let p = place in let g = found in (omega arith, omega arith)
+  end-inside = let n = length-drop at s in let g = found in (omega arith, omega arith)
 
   pub next_word : words_of (drop at s) ≡ take (end - at) (drop at s) ∷ words_of (drop (end + 1) s)
   next_word =
-      let p = place in
       let a : index_of 10 (drop at s) ≡ end - at = omega arith in
       let b : at + suc (index_of 10 (drop at s)) ≡ end + 1 = omega arith in
       index-first (drop at s) found

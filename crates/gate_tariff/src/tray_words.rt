@@ -1,5 +1,6 @@
 // The words of a tray, each closed by a line feed.
-ghost use Rattle.std.specs.Prelude.{◌≡◌, true, length};
+ghost use Rattle.std.specs.Prelude.{◌≡◌, ◌+◌, ◌≤◌, true, length, drop};
+ghost use Rattle.gate_tariff.specs.Index.{index_of};
 ghost use Rattle.gate_tariff.specs.Tariff.{in_range, Small};
 ghost use Rattle.gate_tariff.specs.Tray.{words_of, is_tray, size_of, total_of};
 
@@ -49,7 +50,7 @@ pub(crate) fn total(tariff: Tariff, s: &[u8], n: usize) -> Ticks
     let mut at = 0;
     let mut i = 0;
     while i < n {
-        let end = bytes::scan::find(s, at, s.len(), b'\n');
+        let end = find(s, at, b'\n');
         match word_ticks(tariff, &s[at..end]) {
             Ticks::Sum(k) => {
                 sum += k;
@@ -60,4 +61,19 @@ pub(crate) fn total(tariff: Tariff, s: &[u8], n: usize) -> Ticks
         }
     }
     Ticks::Sum(sum)
+}
+
+// The place of the first byte b from at on, or the length.
+fn find(s: &[u8], at: usize, b: u8) -> usize
+    requires { at ≤ length s.now }
+    ensures { result ≡ at + index_of b (drop at s.now) }
+{
+    let mut i = at;
+    while i < s.len() {
+        if s[i] == b {
+            return i;
+        }
+        i += 1;
+    }
+    i
 }

@@ -43,7 +43,7 @@ module _ (c : tie.After-find invariant-loop decreases-loop) where
   left = let h = here.loop.inv.0 in words_left s at (omega arith)
 
   inside : (at ≤ end) × (end < length s)
-  inside = end-inside s at end (tray_facts s start.pre.1).0 left c.find.ensures.0
+  inside = end-inside s at end (tray_facts s start.pre.1).0 left c.find.ensures
 
   -- the word up to the line feed that was found, and the words behind it
   abbrev word : List ℕ
@@ -53,7 +53,7 @@ module _ (c : tie.After-find invariant-loop decreases-loop) where
   behind = words_of (drop (end + 1) s)
 
   next : words_of (drop at s) ≡ word ∷ behind
-  next = next_word s at end (tray_facts s start.pre.1).0 left c.find.ensures.0
+  next = next_word s at end (tray_facts s start.pre.1).0 left c.find.ensures
 
   -- what the words from here on make of the sum so far
   ahead : total_from prices here.loop.sum (word ∷ behind) ≡ total_of prices (words_of s)
@@ -66,7 +66,7 @@ loop-holds c =
     (omega arith, omega (arith, (tray_facts s c.before.requires.1).1), total_start c.before.args.tariff (words_of s))
 
 find-requires : tie.Need-find-requires invariant-loop decreases-loop
-find-requires c κs = let t = c.before in let h = t.loop.invariant.0 in let l = words_left t.before.before.args.s.now t.loop.at (omega arith) in (omega arith, omega arith)
+find-requires c κs = let t = c.before in let h = t.loop.invariant.0 in let l = words_left t.before.before.args.s.now t.loop.at (omega arith) in omega arith
 
 sub-word-ticks : tie.Need-overflow-sub-word-ticks invariant-loop decreases-loop
 sub-word-ticks c = (inside c).0
