@@ -121,6 +121,14 @@ for m in re.finditer(r"(?m)^(\./proofs/(\S+)/Proof\.antt):(\d+):(\d+): error: `[
     if not of: continue
     byold={o:(par,nw) for (o,par,_,_,_),nw in zip(of['places'],of['places_by_name'])}
     bynew={nw:o for o,(par,nw) in byold.items()}
+    armo={o:a for (o,_,_,_,_),a in zip(of['places'],of['arms']) if a}
+    deep={}
+    for o,a in armo.items(): deep[a[0]]=max(deep.get(a[0],0),a[1])
+    for o,a in list(armo.items()):
+        if a[1]>1 and a[1]==deep[a[0]]:
+            q=o
+            while q in armo and armo[q][0]==a[0] and byold[q][0]: q=byold[q][0]
+            byold[o]=(q,byold[o][1])
     def chain(nw):
         o=bynew.get(nw); r=[]
         while o: r.append(o); o=byold[o][0]

@@ -85,6 +85,15 @@ def chains(t,of):
     par={};
     byold={o:(p,n) for (o,p,_,_,_),n in zip(of['places'],of['places_by_name'])}
     for o,(p,n) in byold.items(): par[n]=byold[p][1] if p in byold else None
+    # the last place of an arm goes back to what stood before the arm
+    arm={n:a for n,a in zip(of['places_by_name'],of['arms']) if a}
+    deep={}
+    for n,a in arm.items(): deep[a[0]]=max(deep.get(a[0],0),a[1])
+    for n,a in arm.items():
+        if a[1]>1 and a[1]==deep[a[0]]:
+            q=n
+            while q in arm and arm[q][0]==a[0] and par.get(q): q=par[q]
+            par[n]=q
     def anc(n):
         r=[]
         while n is not None and n in par and n not in r: r.append(n); n=par[n]

@@ -6,21 +6,21 @@ use borrow.Author.Rules.{rules}
 use Rattle.gate_tariff.proofs.cost.Statement.{statement}
 use Rattle.gate_tariff.proofs.cost.Tie as tie
 
-in-range-requires : tie.Need-in-range-requires
+in-range-requires : tie.Need-in_range-requires
 in-range-requires c κs = search rules
 
-returns : tie.Need-returns
-returns c = cost_price _ _ _ (sym c.before.in-range.ensures ∙ not-true _ c.if1.true)
+returns : tie.Need-returns-then-not-in_range
+returns c = cost_price _ _ _ (sym c.in_range.ensures ∙ not-true _ c.if-not-in_range.true)
 
-word-ticks-requires : tie.Need-word-ticks-requires
-word-ticks-requires c κs = sym c.before.in-range.ensures ∙ not-false _ c.if1.false
+word-ticks-requires : tie.Need-word_ticks-requires
+word-ticks-requires c κs = sym c.in_range.ensures ∙ not-false _ c.if-not-in_range.false
 
 answered-requires : tie.Need-answered-requires
-answered-requires c κs = ticks_fit _ _ _ c.word-ticks.ensures
+answered-requires c κs = ticks_fit _ _ _ c.word_ticks.ensures
 
-returns-2 : tie.Need-returns-2
+returns-2 : tie.Need-returns
 unfolding cost_of
-returns-2 c = c.answered.ensures ∙ ap (answered _) c.before.word-ticks.ensures
+returns-2 c = c.answered.ensures ∙ ap (answered _) c.word_ticks.ensures
 
-pub cost-spec : {M : Type 1} → statement M
-cost-spec = tie.close (tie.spec in-range-requires returns word-ticks-requires answered-requires returns-2)
+pub cost_spec : {M : Type 1} → statement M
+cost_spec = tie.close (tie.spec in-range-requires returns word-ticks-requires answered-requires returns-2)

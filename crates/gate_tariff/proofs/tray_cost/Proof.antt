@@ -9,25 +9,25 @@ use borrow.Author.Rules.{rules}
 use Rattle.gate_tariff.proofs.tray_cost.Statement.{statement}
 use Rattle.gate_tariff.proofs.tray_cost.Tie as tie
 
-size-requires : tie.Need-size-requires
+size-requires : tie.Need-size-n-requires
 size-requires c κs = search rules
 
-in-range-requires : tie.Need-in-range-requires
+in-range-requires : tie.Need-in_range-priced-requires
 in-range-requires c κs = search rules
 
-returns : tie.Need-returns
-returns c = tray_refused _ _ _ (size-zero _ _ c.before.before.size.ensures c.if1.true)
+returns : tie.Need-returns-then-n-eq0
+returns c = tray_refused _ _ _ (size-zero _ _ c.size-n.ensures c.if-n-eq0.true)
 
 -- past the first test there is a tray, and past the second its prices are in range
-module _ (c : tie.Else1) where
-  filled : (is_tray c.before.before.before.before.args.words.now ≡ true) × (c.before.before.size.result ≡ length (words_of c.before.before.before.before.args.words.now))
-  filled = size-some _ _ c.before.before.size.ensures c.if1.false
+module _ (c : tie.Else-n-eq0) where
+  filled : (is_tray c.args.words.now ≡ true) × (c.size-n.result ≡ length (words_of c.args.words.now))
+  filled = size-some _ _ c.size-n.ensures c.if-n-eq0.false
 
-priced : (c : tie.Else2) → in_range c.before.before.before.before.before.args.tariff ≡ true
-priced c = sym c.before.before.in-range.ensures ∙ not-false _ c.if2.false
+priced : (c : tie.Else-not-priced) → in_range c.args.tariff ≡ true
+priced c = sym c.in_range-priced.ensures ∙ not-false _ c.if-not-priced.false
 
-returns-2 : tie.Need-returns-2
-returns-2 c = tray_price _ _ _ (filled c.before).0 (sym c.before.before.in-range.ensures ∙ not-true _ c.if2.true)
+returns-2 : tie.Need-returns-then-not-priced
+returns-2 c = tray_price _ _ _ (filled c.before).0 (sym c.in_range-priced.ensures ∙ not-true _ c.if-not-priced.true)
 
 total-requires : tie.Need-total-requires
 total-requires c κs = (priced c, (filled c.before).0, (filled c.before).1)
@@ -35,13 +35,13 @@ total-requires c κs = (priced c, (filled c.before).0, (filled c.before).1)
 answered-requires : tie.Need-answered-requires
 answered-requires c κs = c.total.ensures.1
 
-returns-3 : tie.Need-returns-3
+returns-3 : tie.Need-returns
 returns-3 c =
-    let e = c.before.before in
-    c.answered.ensures ∙ ap (answered _) c.before.total.ensures.0 ∙ tray_answered _ _ _ (filled e.before).0
+    let e = c in
+    c.answered.ensures ∙ ap (answered _) c.total.ensures.0 ∙ tray_answered _ _ _ (filled c.before.before.before).0
 
-pub tray-cost-spec : {M : Type 1} → statement M
-tray-cost-spec =
+pub tray_cost_spec : {M : Type 1} → statement M
+tray_cost_spec =
     tie.close
     (tie.spec
     size-requires

@@ -7,18 +7,18 @@ use Rattle.gate_words.proofs.chosen.Tie as tie
 front-requires : tie.Need-front-requires
 front-requires c κs = search rules
 
-returns : tie.Need-returns
+returns : tie.Need-returns-then-other
 returns c =
-    let e : c.before.before.before.before.args.p.second ≡ true = c.before.if1.true in
+    let e : c.args.p.second ≡ true = c.if-other.true in
     rw e c.front.ensures
 
 front-requires-2 : tie.Need-front-requires-2
 front-requires-2 c κs = search rules
 
-returns-2 : tie.Need-returns-2
+returns-2 : tie.Need-returns
 returns-2 c =
-    let e : c.before.before.before.before.args.p.second ≡ false = c.before.if1.false in
-    rw e c.front2.ensures
+    let e : c.args.p.second ≡ false = c.if-other.false in
+    rw e c.front-2.ensures
 
-pub chosen-spec : {M : Type 1} → statement M
-chosen-spec = tie.close (tie.spec front-requires returns front-requires-2 returns-2)
+pub chosen_spec : {M : Type 1} → statement M
+chosen_spec = tie.close (tie.spec front-requires returns front-requires-2 returns-2)

@@ -5,14 +5,14 @@ use borrow.Author.Rules.{rules}
 use Rattle.gate_words.proofs.front.Statement.{statement}
 use Rattle.gate_words.proofs.front.Tie as tie
 
-slice-aggregate-result : tie.Need-slice-aggregate-result
+slice-aggregate-result : tie.Need-slice_bounds-result-end
 slice-aggregate-result c = sym (length-take-le _ _ (omega arith))
 
-returns : tie.Need-returns
+returns : tie.Need-returns-then-n-s
 returns c = search rules
 
-returns-2 : tie.Need-returns-2
-returns-2 c = (sym (take_all c.before.args.n c.before.args.s.now (omega arith)), refl)
+returns-2 : tie.Need-returns
+returns-2 c = (sym (take_all c.args.n c.args.s.now (omega arith)), refl)
 
-pub front-spec : {M : Type 1} → statement M
-front-spec = tie.close (tie.spec slice-aggregate-result returns returns-2)
+pub front_spec : {M : Type 1} → statement M
+front_spec = tie.close (tie.spec slice-aggregate-result returns returns-2)

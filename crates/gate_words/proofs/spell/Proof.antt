@@ -1,5 +1,5 @@
-use mathlib.Core.Path.{◌≡◌, sym, ◌∙◌}
-use mathlib.Core.Bool.{true}
+use mathlib.Core.Path.{◌≡◌, sym, ◌∙◌, ap}
+use mathlib.Core.Bool.{true, not}
 use lib.Dec.{leb}
 use lib.ListN.{length}
 use borrow.Author.Tests.{leb-true}
@@ -11,67 +11,67 @@ use borrow.Author.Rules.{rules}
 use Rattle.gate_words.proofs.spell.Statement.{statement}
 use Rattle.gate_words.proofs.spell.Tie as tie
 
-scale-requires : tie.Need-scale-requires
+scale-requires : tie.Need-scale-scale-requires
 scale-requires c κs = search rules
 
-completes-requires : tie.Need-completes-requires
+completes-requires : tie.Need-completes-solves-requires
 completes-requires c κs = search rules
 
-returns : tie.Need-returns
+returns : tie.Need-returns-then-not-scale
 returns c =
-    let s = c.before.before in
-    let a = s.before.before.before.args in
-    out_of_range a.k a.u a.t a.first.now a.second.now (sym s.scale.ensures ∙ unless _ c.if1.true)
+    let s = c in
+    let a = c.args in
+    out_of_range a.k a.u a.t a.first.now a.second-1.now (sym c.scale-scale.ensures ∙ unless _ c.if-not-scale.true)
 
-returns-2 : tie.Need-returns-2
+returns-2 : tie.Need-returns-then-not-solves
 returns-2 c =
-    let s = c.before.before.before in
-    let a = s.before.before.before.args in
-    let e = sym s.scale.ensures ∙ given _ c.before.if1.false in
-    not_unitary_lem a.k a.u a.t a.first.now a.second.now e (fails (leb a.k top_scale) (completes a.k a.u a.t) c.before.before.completes.ensures e (unless _ c.if2.true))
+    let s = c in
+    let a = c.args in
+    let e = sym c.scale-scale.ensures ∙ given _ (ap not c.if-not-scale.false) in
+    not_unitary_lem a.k a.u a.t a.first-1.now a.second-1.now e (fails (leb a.k top_scale) (completes a.k a.u a.t) c.completes-solves.ensures e (unless _ c.if-not-solves.true))
 
 -- after the checks
-in-range : (c : tie.Else2) → leb c.before.before.before.before.before.before.args.k top_scale ≡ true
-in-range c = sym c.before.before.before.scale.ensures ∙ given _ c.before.if1.false
+in-range : (c : tie.Else-not-solves) → leb c.args.k top_scale ≡ true
+in-range c = sym c.scale-scale.ensures ∙ given _ (ap not c.if-not-scale.false)
 
-unitary : (c : tie.Else2) → completes c.before.before.before.before.before.before.args.k c.before.before.before.before.before.before.args.u c.before.before.before.before.before.before.args.t ≡ true
-unitary c = let a = c.before.before.before.before.before.before.args in holds (leb a.k top_scale) (completes a.k a.u a.t) c.before.before.completes.ensures (given _ c.if2.false)
+unitary : (c : tie.Else-not-solves) → completes c.args.k c.args.u c.args.t ≡ true
+unitary c = let a = c.args in holds (leb a.k top_scale) (completes a.k a.u a.t) c.completes-solves.ensures (given _ (ap not c.if-not-solves.false))
 
-word-requires : tie.Need-word-requires
-word-requires c κs = let a = c.before.before.before.before.before.before.args in (solves a.k a.u a.t (unitary c), leb-true _ _ (in-range c))
+word-requires : tie.Need-word-v-requires
+word-requires c κs = let a = c.args in (solves a.k a.u a.t (unitary c), leb-true _ _ (in-range c))
 
-conjugate-word-requires : tie.Need-conjugate-word-requires
-conjugate-word-requires c κs = let a = c.before.before.before.before.before.before.before.args in (solves a.k a.u a.t (unitary c.before), leb-true _ _ (in-range c.before))
+conjugate-word-requires : tie.Need-conjugate_word-w-requires
+conjugate-word-requires c κs = let a = c.args in (solves a.k a.u a.t (unitary c.before), leb-true _ _ (in-range c.before))
 
 lay-requires : tie.Need-lay-requires
 lay-requires c κs =
-    let w = c.before.before.before.before in
-    (w.word.ensures.room, λ e. leb-true _ _ (both_true (leb w.word.result.len (length w.before.before.before.before.before.before.before.args.first.now)) _ e).0)
+    let w = c in
+    (c.word-v.ensures.room, λ e. leb-true _ _ (both_true (leb c.word-v.result.len (length c.args.first.now)) _ e).0)
 
 lay-requires-2 : tie.Need-lay-requires-2
 lay-requires-2 c κs =
-    let w = c.before.before.before.before.before.before.before.before in
-    (c.before.before.before.before.before.before.before.conjugate-word.ensures.room, λ e. leb-true _ _ (both_true (leb w.word.result.len (length w.before.before.before.before.before.before.before.args.first.now)) _ e).1)
+    let w = c in
+    (c.conjugate_word-w.ensures.room, λ e. leb-true _ _ (both_true (leb c.word-v.result.len (length c.args.first.now)) _ e).1)
 
 decide-requires : tie.Need-decide-requires
 decide-requires c κs = search rules
 
-same_length : tie.Need-same-length
+same_length : tie.Need-shape_of-first
 same_length c = search rules
 
-same-length-2 : tie.Need-same-length-2
+same-length-2 : tie.Need-shape_of-second
 same-length-2 c = search rules
 
-returns-3 : tie.Need-returns-3
+returns-3 : tie.Need-returns
 returns-3 c =
-    let w = c.before.before.before.before.before.before.before.before.before.before.before.before in
-    let a = w.before.before.before.before.before.before.before.args in
-    let x = w.word.ensures in
-    let y = c.before.before.before.before.before.before.before.before.before.before.before.conjugate-word.ensures in
-    spells a.k a.u a.t a.first.now a.second.now (in-range w.before) (unitary w.before) x y _ (fits-is a.k a.u a.t _ _ x y) c.before.before.before.before.before.before.before.lay.ensures c.before.before.before.lay2.ensures c.decide.ensures
+    let w = c in
+    let a = c.args in
+    let x = c.word-v.ensures in
+    let y = c.conjugate_word-w.ensures in
+    spells a.k a.u a.t a.first.now a.second-1.now (in-range c.before.before.before.before.before.before.before.before.before.before.before.before.before) (unitary c.before.before.before.before.before.before.before.before.before.before.before.before.before) x y _ (fits-is a.k a.u a.t _ _ x y) c.lay.ensures c.lay-2.ensures c.decide.ensures
 
-pub spell-spec : {M : Type 1} → statement M
-spell-spec =
+pub spell_spec : {M : Type 1} → statement M
+spell_spec =
     tie.close
     (tie.spec
     scale-requires

@@ -4,17 +4,17 @@ use Rattle.gate_tariff.specs.Tariff.{price}
 use Rattle.gate_tariff.proofs.price.price.Statement.{statement}
 use Rattle.gate_tariff.proofs.price.price.Tie as tie
 
-returns : tie.Need-returns
-returns c = sym (ap (price _) (letter-H _ c.match.keys1))
+returns : tie.Need-returns-in-72
+returns c = sym (ap (price _) (letter-H _ c.in-72.is))
 
-returns-2 : tie.Need-returns-2
-returns-2 c = sym (ap (price _) (letter-S _ c.match.keys2))
+returns-2 : tie.Need-returns-in-83
+returns-2 c = sym (ap (price _) (letter-S _ c.in-83.is))
 
-returns-3 : tie.Need-returns-3
-returns-3 c = sym (ap (price _) (letter-T _ c.match.keys3))
+returns-3 : tie.Need-returns-in-84
+returns-3 c = sym (ap (price _) (letter-T _ c.in-84.is))
 
-returns-4 : tie.Need-returns-4
-returns-4 c = let r = c.match.rest in sym (ap (price _) (letter-W _ r.0.0.1 r.0.1 r.1))
+returns-4 : tie.Need-returns-in_default
+returns-4 c = let r = c.in_default.rest in sym (ap (price _) (letter-W _ r.0.0.1 r.0.1 r.1))
 
-pub price-spec : {M : Type 1} → statement M
-price-spec = tie.close (tie.spec returns returns-2 returns-3 returns-4)
+pub price_spec : {M : Type 1} → statement M
+price_spec = tie.close (tie.spec returns returns-2 returns-3 returns-4)

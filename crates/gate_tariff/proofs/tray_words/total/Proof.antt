@@ -13,14 +13,14 @@ use Rattle.gate_tariff.proofs.Words.{tray_facts, end-inside, next_word, total_fr
 use Rattle.gate_tariff.proofs.tray_words.total.Statement.{statement}
 use Rattle.gate_tariff.proofs.tray_words.total.Tie as tie
 
-abbrev invariant-loop : tie.invariant-loop
+abbrev invariant-loop : tie.invariant-loop-i
 invariant-loop tariff s n sum₀ at₀ i₀ sum at i = (i + length (words_of (drop at s)) ≡ n) × (sum + 65536000 * length (words_of (drop at s)) ≤ 524288000) × (total_from tariff sum (words_of (drop at s)) ≡ total_of tariff (words_of s))
 
-abbrev decreases-loop : tie.decreases-loop
+abbrev decreases-loop : tie.decreases-loop-i
 decreases-loop tariff s n sum₀ at₀ i₀ sum at i = n - i
 
-module _ (c : tie.After-find invariant-loop decreases-loop) where
-  abbrev here : tie.At-loop invariant-loop decreases-loop
+module _ (c : tie.After-find-end invariant-loop decreases-loop) where
+  abbrev here : tie.At-loop-i invariant-loop decreases-loop
   here = c.before.before
 
   abbrev start : tie.Start invariant-loop decreases-loop
@@ -33,17 +33,17 @@ module _ (c : tie.After-find invariant-loop decreases-loop) where
   s = start.args.s.now
 
   abbrev at : ℕ
-  at = here.loop.at
+  at = here.loop-i.at
 
   abbrev end : ℕ
-  end = c.find.result
+  end = c.find-end.result
 
   -- words are left
   left : at < length s
-  left = let h = here.loop.inv.0 in words_left s at (omega arith)
+  left = let h = here.loop-i.inv.0 in words_left s at (omega arith)
 
   inside : (at ≤ end) × (end < length s)
-  inside = end-inside s at end (tray_facts s start.pre.1).0 left c.find.ensures
+  inside = end-inside s at end (tray_facts s start.requires.1).0 left c.find-end.ensures
 
   -- the word up to the line feed that was found, and the words behind it
   abbrev word : List ℕ
@@ -53,90 +53,90 @@ module _ (c : tie.After-find invariant-loop decreases-loop) where
   behind = words_of (drop (end + 1) s)
 
   next : words_of (drop at s) ≡ word ∷ behind
-  next = next_word s at end (tray_facts s start.pre.1).0 left c.find.ensures
+  next = next_word s at end (tray_facts s start.requires.1).0 left c.find-end.ensures
 
   -- what the words from here on make of the sum so far
-  ahead : total_from prices here.loop.sum (word ∷ behind) ≡ total_of prices (words_of s)
-  ahead = ap (total_from prices here.loop.sum) (sym next) ∙ here.loop.inv.2
+  ahead : total_from prices here.loop-i.sum (word ∷ behind) ≡ total_of prices (words_of s)
+  ahead = ap (total_from prices here.loop-i.sum) (sym next) ∙ here.loop-i.inv.2
 
-loop-holds : tie.Need-loop-init invariant-loop decreases-loop
+loop-holds : tie.Need-loop-i-init invariant-loop decreases-loop
 loop-holds c =
-    let s = c.before.args.s.now in
-    let e = c.before.requires.2 in
-    (omega arith, omega (arith, (tray_facts s c.before.requires.1).1), total_start c.before.args.tariff (words_of s))
+    let s = c.args.s.now in
+    let e = c.requires.2 in
+    (omega arith, omega (arith, (tray_facts s c.requires.1).1), total_start c.args.tariff (words_of s))
 
-find-requires : tie.Need-find-requires invariant-loop decreases-loop
-find-requires c κs = let t = c.before in let h = t.loop.invariant.0 in let l = words_left t.before.before.args.s.now t.loop.at (omega arith) in omega arith
+find-requires : tie.Need-find-end-requires invariant-loop decreases-loop
+find-requires c κs = let t = c in let h = c.loop-i.invariant.0 in let l = words_left c.args.s.now c.loop-i.at (omega arith) in omega arith
 
-sub-word-ticks : tie.Need-overflow-sub-word-ticks invariant-loop decreases-loop
+sub-word-ticks : tie.Need-slice_bounds-word_ticks-count invariant-loop decreases-loop
 sub-word-ticks c = (inside c).0
 
-part-word-ticks-start : tie.Need-slice-bounds-word-ticks-start invariant-loop decreases-loop
+part-word-ticks-start : tie.Need-slice_bounds-word_ticks-start invariant-loop decreases-loop
 part-word-ticks-start c = (inside c).0
 
-part-word-ticks-end : tie.Need-slice-bounds-word-ticks-end invariant-loop decreases-loop
+part-word-ticks-end : tie.Need-slice_bounds-word_ticks-end invariant-loop decreases-loop
 part-word-ticks-end c = let h = (inside c).1 in omega arith
 
-word-ticks-requires : tie.Need-word-ticks-requires invariant-loop decreases-loop
+word-ticks-requires : tie.Need-word_ticks-requires invariant-loop decreases-loop
 word-ticks-requires c κs = search rules
 
-enum-known-k : tie.Need-enum-known-k invariant-loop decreases-loop
+enum-known-k : tie.Need-enum_known-k invariant-loop decreases-loop
 enum-known-k c = search rules
 
 -- the ticks of that word
-module _ (c : tie.After-known-told invariant-loop decreases-loop) where
-  abbrev found : tie.After-find invariant-loop decreases-loop
+module _ (c : tie.In-Sum invariant-loop decreases-loop) where
+  abbrev found : tie.After-find-end invariant-loop decreases-loop
   found = c.before.before.before.before.before
 
   abbrev n : ℕ
-  n = c.before.k.given.0.0
+  n = c.in-Sum.k-1
 
   told : ticks_of (prices found) (word found) ≡ Sum n
-  told = sym c.before.before.before.word-ticks.ensures ∙ c.before.k.given.1
+  told = sym c.word_ticks.ensures ∙ c.in-Sum.is
 
-  least : (here found).loop.sum + n + 65536000 * length (behind found) ≤ 524288000
+  least : (here found).loop-i.sum + n + 65536000 * length (behind found) ≤ 524288000
   least =
-      let i = (here found).loop.inv.1 in
+      let i = (here found).loop-i.inv.1 in
       let l = ap length (next found) in
       omega (arith, ticks_small (prices found) (word found) n told)
 
-add-sum : tie.Need-overflow-add-sum invariant-loop decreases-loop
+add-sum : tie.Need-overflow_add-sum invariant-loop decreases-loop
 add-sum c = omega (arith, least c)
 
-add-i : tie.Need-overflow-add-i invariant-loop decreases-loop
-add-i c = let h = c.before.before.before.before.before.before.before.loop.invariant.0 in omega arith
+add-i : tie.Need-overflow_add-i invariant-loop decreases-loop
+add-i c = let h = c.loop-i.invariant.0 in omega arith
 
-add_at : tie.Need-overflow-add-at invariant-loop decreases-loop
+add_at : tie.Need-overflow_add-at invariant-loop decreases-loop
 add_at c = let h = (inside c.before.before.before.before.before).1 in omega arith
 
-loop-less : tie.Need-loop-smaller invariant-loop decreases-loop
+loop-less : tie.Need-loop-i-smaller invariant-loop decreases-loop
 loop-less c = search rules
 
-loop-again : tie.Need-loop-preserved invariant-loop decreases-loop
+loop-again : tie.Need-loop-i-preserved invariant-loop decreases-loop
 loop-again c =
     let k = found c in
     let h = (inside k).1 in
     let l = ap length (next k) in
-    let e = (here k).loop.inv.0 in
-    (omega arith, least c, sym (total_more (prices k) (here k).loop.sum (n c) (word k) (behind k) (told c)) ∙ ahead k)
+    let e = (here k).loop-i.inv.0 in
+    (omega arith, least c, sym (total_more (prices k) (here k).loop-i.sum (n c) (word k) (behind k) (told c)) ∙ ahead k)
 
-enum-known-why : tie.Need-enum-known-why invariant-loop decreases-loop
+enum-known-why : tie.Need-enum_known-why invariant-loop decreases-loop
 enum-known-why c = search rules
 
-returns : tie.Need-returns invariant-loop decreases-loop
+returns : tie.Need-returns-in-Refused invariant-loop decreases-loop
 returns c =
     let k = c.before.before.before.before.before in
-    (sym (total_refused (prices k) (here k).loop.sum (word k) (behind k) _ (sym c.before.before.before.word-ticks.ensures ∙ c.before.why.given.1)) ∙ ahead k, tt)
+    (sym (total_refused (prices c.before.before.before.before.before) (here c.before.before.before.before.before).loop-i.sum (word c.before.before.before.before.before) (behind c.before.before.before.before.before) _ (sym c.word_ticks.ensures ∙ c.in-Refused.is)) ∙ ahead c.before.before.before.before.before, tt)
 
-returns-2 : tie.Need-returns-2 invariant-loop decreases-loop
+returns-2 : tie.Need-returns invariant-loop decreases-loop
 returns-2 c =
-    let t = c.before in
-    let a = t.before.before.args in
-    let e = t.loop.invariant.0 in
-    (sym (total_end a.tariff t.loop.sum (words_of (drop t.loop.at a.s.now)) (omega arith)) ∙ t.loop.invariant.2, omega arith)
+    let t = c in
+    let a = c.args in
+    let e = c.loop-i.invariant.0 in
+    (sym (total_end a.tariff c.loop-i.sum (words_of (drop c.loop-i.at a.s.now)) (omega arith)) ∙ c.loop-i.invariant.2, omega arith)
 
-pub total-spec : {M : Type 1} → statement M
-total-spec =
+pub total_spec : {M : Type 1} → statement M
+total_spec =
     tie.close
     (tie.spec
     invariant-loop
