@@ -10,10 +10,10 @@ in-range-requires : tie.Need-in_range-requires
 in-range-requires c κs = search rules
 
 returns : tie.Need-returns-then-not-in_range
-returns c = cost_price _ _ _ (sym c.in_range.ensures ∙ not-true _ c.if-not-in_range.true)
+returns c = cost_price _ _ _ (sym c.in_range.ensures ∙ c.if-not-in_range.true)
 
 word-ticks-requires : tie.Need-word_ticks-requires
-word-ticks-requires c κs = sym c.in_range.ensures ∙ not-false _ c.if-not-in_range.false
+word-ticks-requires c κs = sym c.in_range.ensures ∙ c.if-not-in_range.false
 
 answered-requires : tie.Need-answered-requires
 answered-requires c κs = ticks_fit _ _ _ c.word_ticks.ensures

@@ -24,10 +24,10 @@ module _ (c : tie.Else-n-eq0) where
   filled = size-some _ _ c.size-n.ensures c.if-n-eq0.false
 
 priced : (c : tie.Else-not-priced) → in_range c.args.tariff ≡ true
-priced c = sym c.in_range-priced.ensures ∙ not-false _ c.if-not-priced.false
+priced c = sym c.in_range-priced.ensures ∙ c.if-not-priced.false
 
 returns-2 : tie.Need-returns-then-not-priced
-returns-2 c = tray_price _ _ _ (filled c.before).0 (sym c.in_range-priced.ensures ∙ not-true _ c.if-not-priced.true)
+returns-2 c = tray_price _ _ _ (filled c.before).0 (sym c.in_range-priced.ensures ∙ c.if-not-priced.true)
 
 total-requires : tie.Need-total-requires
 total-requires c κs = (priced c, (filled c.before).0, (filled c.before).1)

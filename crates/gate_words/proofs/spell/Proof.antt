@@ -21,14 +21,14 @@ returns : tie.Need-returns-then-not-scale
 returns c =
     let s = c in
     let a = c.args in
-    out_of_range a.k a.u a.t a.first.now a.second-1.now (sym c.scale-scale.ensures ∙ unless _ c.if-not-scale.true)
+    out_of_range a.k a.u a.t a.first.now a.second.now (sym c.scale-scale.ensures ∙ unless _ (ap not c.if-not-scale.true))
 
 returns-2 : tie.Need-returns-then-not-solves
 returns-2 c =
     let s = c in
     let a = c.args in
     let e = sym c.scale-scale.ensures ∙ given _ (ap not c.if-not-scale.false) in
-    not_unitary_lem a.k a.u a.t a.first-1.now a.second-1.now e (fails (leb a.k top_scale) (completes a.k a.u a.t) c.completes-solves.ensures e (unless _ c.if-not-solves.true))
+    not_unitary_lem a.k a.u a.t a.first.now a.second.now e (fails (leb a.k top_scale) (completes a.k a.u a.t) c.completes-solves.ensures e (unless _ (ap not c.if-not-solves.true)))
 
 -- after the checks
 in-range : (c : tie.Else-not-solves) → leb c.args.k top_scale ≡ true
@@ -68,7 +68,7 @@ returns-3 c =
     let a = c.args in
     let x = c.word-v.ensures in
     let y = c.conjugate_word-w.ensures in
-    spells a.k a.u a.t a.first.now a.second-1.now (in-range c.before.before.before.before.before.before.before.before.before.before.before.before.before) (unitary c.before.before.before.before.before.before.before.before.before.before.before.before.before) x y _ (fits-is a.k a.u a.t _ _ x y) c.lay.ensures c.lay-2.ensures c.decide.ensures
+    spells a.k a.u a.t a.first.now a.second.now (in-range c.before.before.before.before.before.before.before.before.before.before.before.before.before) (unitary c.before.before.before.before.before.before.before.before.before.before.before.before.before) x y _ (fits-is a.k a.u a.t _ _ x y) c.lay.ensures c.lay-2.ensures c.decide.ensures
 
 pub spell_spec : {M : Type 1} → statement M
 spell_spec =

@@ -18,7 +18,7 @@ same-length-2 c = search rules
 returns : tie.Need-returns
 returns c =
     let a = c.args in
-    hands a.k a.u a.t a.first.now a.second-1.now c.spell-a.ensures c.part.ensures
+    hands a.k a.u a.t a.first.now a.second.now c.spell-a.ensures c.part.ensures
 
 pub spell_part_spec : {M : Type 1} → statement M
 spell_part_spec =

@@ -21,7 +21,7 @@ returns c =
     let s = c in
     join
     (one c.args.out.now 0 header c.put_bytes-at.new.out c.put_bytes-at.result 47 (lit≤ tt) c.put_bytes-at.ensures)
-    (one c.put_bytes-at.new.out c.put_bytes-at.result c.args.lines.now c.put_bytes.new.0 c.put_bytes.result 524288 c.requires c.put_bytes.ensures)
+    (one c.put_bytes-at.new.out c.put_bytes-at.result c.args.lines.now c.put_bytes.new.out c.put_bytes.result 524288 c.requires c.put_bytes.ensures)
 
 pub put_lines_spec : {M : Type 1} → statement M
 put_lines_spec =

@@ -14,7 +14,7 @@ returns-3 : tie.Need-returns-in-84
 returns-3 c = sym (ap (price _) (letter-T _ c.in-84.is))
 
 returns-4 : tie.Need-returns-in_default
-returns-4 c = let r = c.in_default.rest in sym (ap (price _) (letter-W _ r.0.0.1 r.0.1 r.1))
+returns-4 c = let r = c.in_default.in_default-own.rest in sym (ap (price _) (letter-W _ r.0.0.1 r.0.1 r.1))
 
 pub price_spec : {M : Type 1} → statement M
 price_spec = tie.close (tie.spec returns returns-2 returns-3 returns-4)

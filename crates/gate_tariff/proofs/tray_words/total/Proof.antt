@@ -40,7 +40,7 @@ module _ (c : tie.After-find-end invariant-loop decreases-loop) where
 
   -- words are left
   left : at < length s
-  left = let h = here.loop-i.inv.0 in words_left s at (omega arith)
+  left = let h = here.loop-i.invariant.0 in words_left s at (omega arith)
 
   inside : (at ≤ end) × (end < length s)
   inside = end-inside s at end (tray_facts s start.requires.1).0 left c.find-end.ensures
@@ -57,7 +57,7 @@ module _ (c : tie.After-find-end invariant-loop decreases-loop) where
 
   -- what the words from here on make of the sum so far
   ahead : total_from prices here.loop-i.sum (word ∷ behind) ≡ total_of prices (words_of s)
-  ahead = ap (total_from prices here.loop-i.sum) (sym next) ∙ here.loop-i.inv.2
+  ahead = ap (total_from prices here.loop-i.sum) (sym next) ∙ here.loop-i.invariant.2
 
 loop-holds : tie.Need-loop-i-init invariant-loop decreases-loop
 loop-holds c =
@@ -86,17 +86,17 @@ enum-known-k c = search rules
 -- the ticks of that word
 module _ (c : tie.In-Sum invariant-loop decreases-loop) where
   abbrev found : tie.After-find-end invariant-loop decreases-loop
-  found = c.before.before.before.before.before
+  found = c.before.before.before
 
   abbrev n : ℕ
-  n = c.in-Sum.k-1
+  n = c.in-Sum.k
 
   told : ticks_of (prices found) (word found) ≡ Sum n
   told = sym c.word_ticks.ensures ∙ c.in-Sum.is
 
   least : (here found).loop-i.sum + n + 65536000 * length (behind found) ≤ 524288000
   least =
-      let i = (here found).loop-i.inv.1 in
+      let i = (here found).loop-i.invariant.1 in
       let l = ap length (next found) in
       omega (arith, ticks_small (prices found) (word found) n told)
 
@@ -107,7 +107,7 @@ add-i : tie.Need-overflow_add-i invariant-loop decreases-loop
 add-i c = let h = c.loop-i.invariant.0 in omega arith
 
 add_at : tie.Need-overflow_add-at invariant-loop decreases-loop
-add_at c = let h = (inside c.before.before.before.before.before).1 in omega arith
+add_at c = let h = (inside c.before.before.before).1 in omega arith
 
 loop-less : tie.Need-loop-i-smaller invariant-loop decreases-loop
 loop-less c = search rules
@@ -117,7 +117,7 @@ loop-again c =
     let k = found c in
     let h = (inside k).1 in
     let l = ap length (next k) in
-    let e = (here k).loop-i.inv.0 in
+    let e = (here k).loop-i.invariant.0 in
     (omega arith, least c, sym (total_more (prices k) (here k).loop-i.sum (n c) (word k) (behind k) (told c)) ∙ ahead k)
 
 enum-known-why : tie.Need-enum_known-why invariant-loop decreases-loop
@@ -126,7 +126,7 @@ enum-known-why c = search rules
 returns : tie.Need-returns-in-Refused invariant-loop decreases-loop
 returns c =
     let k = c.before.before.before.before.before in
-    (sym (total_refused (prices c.before.before.before.before.before) (here c.before.before.before.before.before).loop-i.sum (word c.before.before.before.before.before) (behind c.before.before.before.before.before) _ (sym c.word_ticks.ensures ∙ c.in-Refused.is)) ∙ ahead c.before.before.before.before.before, tt)
+    (sym (total_refused (prices c.before.before.before) (here c.before.before.before).loop-i.sum (word c.before.before.before) (behind c.before.before.before.before.before) _ (sym c.word_ticks.ensures ∙ c.in-Refused.is)) ∙ ahead c.before.before.before.before.before, tt)
 
 returns-2 : tie.Need-returns invariant-loop decreases-loop
 returns-2 c =

@@ -22,7 +22,7 @@ returns c =
     let s = c in
     join
     (one c.args.out.now 0 (shown c.args.word.now) c.put_word-at.new.out c.put_word-at.result 65536 (shown-size _ 65536 (lit≤ tt) c.requires) c.put_word-at.ensures)
-    (one c.put_word-at.new.out c.put_word-at.result (10 ∷ []) c.put_byte.new.0 c.put_byte.result 1 (lit≤ tt) c.put_byte.ensures)
+    (one c.put_word-at.new.out c.put_word-at.result (10 ∷ []) c.put_byte.new.out c.put_byte.result 1 (lit≤ tt) c.put_byte.ensures)
 
 pub put_word_spec : {M : Type 1} → statement M
 put_word_spec = tie.close (tie.spec put-word-requires put-byte-requires same_length returns)
