@@ -26,6 +26,7 @@ use Rattle.text_words.specs.Numbers.{Listed, numbers, numbers_from, listed_of}
 use Rattle.text_words.specs.Numbers as W
 use Rattle.text_input_lines.specs.Lines.{final_line, lines_with}
 use Rattle.list_lines.specs.Lines.{too_long_line}
+use Rattle.text.specs.Written.{written, after}
 use Rattle.text_puts.specs.Texts.{number_texts}
 use Rattle.text_puts.specs.Puts.{Puts, puts, joined, weaken}
 use Rattle.job_words.specs.declared.Row as D

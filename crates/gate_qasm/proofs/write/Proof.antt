@@ -3,7 +3,7 @@ use mathlib.Core.Bool.{true}
 use Prim.Native.Nat.{◌/◌, ◌≤◌}
 use native.Mathlib.Omega.{arith}
 use lib.ListN.{length}
-use borrow.Author.Tests.{not-true, not-false, leb-true, leb-false}
+use borrow.Author.Tests.{not-true, not-false, leb-true, leb-false, le-leb, lt-leb}
 use Rattle.gate_alphabet.specs.Letters.{are_letters}
 use Rattle.gate_qasm.proofs.Answers.{write_none, write_full, write_done}
 use borrow.Author.Rules.{rules}
@@ -29,11 +29,11 @@ returns-2 : tie.Need-returns-then-not-fits
 returns-2 c =
     let n = c in
     let s = c in
-    write_full c.args.word.now c.args.text.now (good c.before) c.lines_of-n.result c.lines_of-n.ensures (leb-false _ _ (not-true _ c.if-not-fits.true))
+    write_full c.args.word.now c.args.text.now (good c.before) c.lines_of-n.result c.lines_of-n.ensures (leb-false _ _ (lt-leb _ _ c.if-not-fits.true))
 
 -- past the second the text has room
 room : (c : tie.Else-not-fits) → c.lines_of-n.result ≤ length c.args.text.now / 8
-room c = leb-true _ _ (not-false _ c.if-not-fits.false)
+room c = leb-true _ _ (le-leb _ _ c.if-not-fits.false)
 
 put-lines-requires : tie.Need-put_lines-requires
 put-lines-requires c κs = let h = room c.before in omega (arith, c.lines_of-n.ensures)

@@ -50,7 +50,7 @@ same-length-4 : tie.Need-shape_of-out
 same-length-4 c = search rules
 
 returns-4 : tie.Need-returns
-returns-4 c = job_records c.args.out.now c.args.bytes.now c.put_records.new.0 c.put_records.result (omega arith) c.bad_line-line.result c.bad_line-line.ensures c.if-line-ne0.false (sym c.exceeds.ensures ∙ c.if-exceeds.false) c.put_records.ensures
+returns-4 c = job_records c.args.out.now c.args.bytes.now c.put_records.new.out c.put_records.result (omega arith) c.bad_line-line.result c.bad_line-line.ensures c.if-line-ne0.false (sym c.exceeds.ensures ∙ c.if-exceeds.false) c.put_records.ensures
 
 pub put_spec : {M : Type 1} → statement M
 put_spec =

@@ -35,13 +35,13 @@ same-length-2 : tie.Need-shape_of-out-in-0
 same-length-2 c = search rules
 
 returns-2 : tie.Need-returns-in-0
-returns-2 c = let h : SFits w64 (get_or c.args.numbers.now 0 (pos 0)) = search rules in rw (selection-new c.args.numbers.now c.if-numbers-ne1.false (sym (to_z-of_z h) ∙ ap (to_z w64) c.in_default.keys1)) (put_one c.args.out.now c.args.at (32 ∷ 110 ∷ 101 ∷ 119 ∷ []) c.put_bytes.new.0 c.put_bytes.result c.put_bytes.ensures)
+returns-2 c = let h : SFits w64 (get_or c.args.numbers.now 0 (pos 0)) = search rules in rw (selection-new c.args.numbers.now c.if-numbers-ne1.false (sym (to_z-of_z h) ∙ ap (to_z w64) c.in-0.in-0-own.keys1)) (put_one c.args.out.now c.args.at (32 ∷ 110 ∷ 101 ∷ 119 ∷ []) c.put_bytes.new.out c.put_bytes.result c.put_bytes.ensures)
 
 same-length-3 : tie.Need-shape_of-out-in-1
 same-length-3 c = search rules
 
 returns-3 : tie.Need-returns-in-1
-returns-3 c = let h : SFits w64 (get_or c.args.numbers.now 0 (pos 0)) = search rules in rw (selection-all c.args.numbers.now c.if-numbers-ne1.false (sym (to_z-of_z h) ∙ ap (to_z w64) c.in_default.keys2)) (put_one c.args.out.now c.args.at (32 ∷ 97 ∷ 108 ∷ 108 ∷ []) c.put_bytes-in-1.new.0 c.put_bytes-in-1.result c.put_bytes-in-1.ensures)
+returns-3 c = let h : SFits w64 (get_or c.args.numbers.now 0 (pos 0)) = search rules in rw (selection-all c.args.numbers.now c.if-numbers-ne1.false (sym (to_z-of_z h) ∙ ap (to_z w64) c.in-1.in-1-own.keys2)) (put_one c.args.out.now c.args.at (32 ∷ 97 ∷ 108 ∷ 108 ∷ []) c.put_bytes-in-1.new.out c.put_bytes-in-1.result c.put_bytes-in-1.ensures)
 
 same-length-4 : tie.Need-shape_of-out-in_default
 same-length-4 c = search rules

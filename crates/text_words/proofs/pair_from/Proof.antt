@@ -36,7 +36,7 @@ module _ (c : tie.After-wide_word_at-second) where
 
 module _ (c : tie.In-Value-second) where
   abbrev two : tie.After-wide_word_at-second
-  two = c.before.before.before
+  two = c.before
 
   abbrev q : ℤ
   q = meaning c.in-Value-second.q

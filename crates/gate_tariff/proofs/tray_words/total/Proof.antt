@@ -126,7 +126,7 @@ enum-known-why c = search rules
 returns : tie.Need-returns-in-Refused invariant-loop decreases-loop
 returns c =
     let k = c.before.before.before.before.before in
-    (sym (total_refused (prices c.before.before.before) (here c.before.before.before).loop-i.sum (word c.before.before.before) (behind c.before.before.before.before.before) _ (sym c.word_ticks.ensures ∙ c.in-Refused.is)) ∙ ahead c.before.before.before.before.before, tt)
+    (sym (total_refused (prices c.before.before.before) (here c.before.before.before).loop-i.sum (word c.before.before.before) (behind c.before.before.before) _ (sym c.word_ticks.ensures ∙ c.in-Refused.is)) ∙ ahead c.before.before.before, tt)
 
 returns-2 : tie.Need-returns invariant-loop decreases-loop
 returns-2 c =

@@ -11,19 +11,19 @@ empty-requires : tie.Need-empty-requires
 empty-requires c κs = search rules
 
 returns : tie.Need-returns-then-count-gt8
-returns c = means_is (many_taken c.args.kind c.args.count c.args.t2 (omega arith) (omega arith)) c.empty.ensures
+returns c = means_is (many_taken c.args.kind c.args.count c.args.numbers (omega arith) (omega arith)) c.empty.ensures
 
 array-share-prefix-numbers : tie.Need-slice_bounds-numbers-end
 array-share-prefix-numbers c = search rules
 
 slice-aggregate-takes-all : tie.Need-slice_bounds-takes_all-end
-slice-aggregate-takes-all c = sym (length-take-le c.args.count c.args.t2 (omega arith))
+slice-aggregate-takes-all c = sym (length-take-le c.args.count c.args.numbers (omega arith))
 
 takes-all-requires : tie.Need-takes_all-good-requires
 takes-all-requires c κs = search rules
 
 returns-2 : tie.Need-returns
-returns-2 c = means_fitted c.args.kind (take c.args.count c.args.t2) _ refl refl (omega arith) (omega arith) refl c.takes_all-good.ensures
+returns-2 c = means_fitted c.args.kind (take c.args.count c.args.numbers) _ refl refl (omega arith) (omega arith) refl c.takes_all-good.ensures
 
 pub fitted_spec : {M : Type 1} → statement M
 fitted_spec =

@@ -6,44 +6,44 @@ use borrow.Author.Rules.{rules}
 use Rattle.test_spelled.proofs.pairs.answered.Statement.{statement}
 use Rattle.test_spelled.proofs.pairs.answered.Tie as tie
 
-returns : tie.Need-returns
+returns : tie.Need-returns-then-first-x
 returns c = search rules
 
-returns-2 : tie.Need-returns-2
+returns-2 : tie.Need-returns-then-second-y
 returns-2 c = search rules
 
-slice-relend-prefix-spell-part : tie.Need-slice-relend-prefix-spell-part
+slice-relend-prefix-spell-part : tie.Need-slice_bounds-spell_part-end
 slice-relend-prefix-spell-part c = search rules
 
-slice-aggregate-spell-part : tie.Need-slice-aggregate-spell-part
+slice-aggregate-spell-part : tie.Need-slice_bounds-spell_part-end-2
 slice-aggregate-spell-part c = sym (length-take-le _ _ (omega arith))
 
-slice-relend-prefix-spell-part-2 : tie.Need-slice-relend-prefix-spell-part-2
+slice-relend-prefix-spell-part-2 : tie.Need-slice_bounds-spell_part-end-3
 slice-relend-prefix-spell-part-2 c = search rules
 
-slice-aggregate-spell-part-2 : tie.Need-slice-aggregate-spell-part-2
+slice-aggregate-spell-part-2 : tie.Need-slice_bounds-spell_part-end-4
 slice-aggregate-spell-part-2 c = sym (length-take-le _ _ (omega arith))
 
-spell-part-requires : tie.Need-spell-part-requires
+spell-part-requires : tie.Need-spell_part-p-requires
 spell-part-requires c κs = search rules
 
-past-bars-requires : tie.Need-past-bars-requires
+past-bars-requires : tie.Need-past_bars-requires
 past-bars-requires c κs = search rules
 
-is-answer-requires : tie.Need-is-answer-requires
+is-answer-requires : tie.Need-is_answer-requires
 is-answer-requires c κs = search rules
 
-same_length : tie.Need-same-length
+same_length : tie.Need-shape_of-first
 same_length c = search rules
 
-same-length-2 : tie.Need-same-length-2
+same-length-2 : tie.Need-shape_of-second
 same-length-2 c = search rules
 
-returns-3 : tie.Need-returns-3
+returns-3 : tie.Need-returns
 returns-3 c = search rules
 
-pub answered-spec : {M : Type 1} → statement M
-answered-spec =
+pub answered_spec : {M : Type 1} → statement M
+answered_spec =
     tie.close
     (tie.spec
     returns

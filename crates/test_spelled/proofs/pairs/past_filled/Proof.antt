@@ -5,22 +5,22 @@ use borrow.Author.Rules.{rules}
 use Rattle.test_spelled.proofs.pairs.past_filled.Statement.{statement}
 use Rattle.test_spelled.proofs.pairs.past_filled.Tie as tie
 
-filled-requires : tie.Need-filled-requires
+filled-requires : tie.Need-filled-n-requires
 filled-requires c κs = search rules
 
-slice-aggregate-past-word : tie.Need-slice-aggregate-past-word
+slice-aggregate-past-word : tie.Need-slice_bounds-past_word-end
 slice-aggregate-past-word c = sym (length-take-le _ _ (omega arith))
 
-past-word-requires : tie.Need-past-word-requires
+past-word-requires : tie.Need-past_word-requires
 past-word-requires c κs = search rules
 
-returns : tie.Need-returns
+returns : tie.Need-returns-then-n-slice
 returns c = search rules
 
-returns-2 : tie.Need-returns-2
+returns-2 : tie.Need-returns
 returns-2 c = search rules
 
-pub past-filled-spec : {M : Type 1} → statement M
-past-filled-spec =
+pub past_filled_spec : {M : Type 1} → statement M
+past_filled_spec =
     tie.close
     (tie.spec filled-requires slice-aggregate-past-word past-word-requires returns returns-2)
