@@ -33,7 +33,7 @@ module _ (j : tie.Joined-fits invariant-loop decreases-loop) where
 
   -- all letters, where they fit, or none
   whole : ((length text / 8 ≤ room) × (j.if-fits.end ≡ length text / 8)) ⊎ ((room < length text / 8) × (j.if-fits.end ≡ 0))
-  whole = ⊎_elim (λ w. inl (leb-true _ _ w.0.taken, w.1)) (λ w. inr (leb-false _ _ w.0.left, w.1)) j.if-fits.came
+  whole = ⊎_elim (λ w. inl (omega arith, w.end-is)) (λ w. inr (omega arith, w.end-is)) j.if-fits.branch-raw
 
   within : (j.if-fits.end ≤ length text / 8) × (j.if-fits.end ≤ room)
   within = ⊎_elim (λ w. (omega arith, omega arith)) (λ w. (omega arith, omega arith)) whole
