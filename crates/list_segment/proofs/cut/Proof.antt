@@ -13,57 +13,57 @@ use Rattle.list_segment.specs.lemmas.Cut.{led, led-next, led-stop, past, not_pas
 use Rattle.list_segment.proofs.cut.Statement.{statement}
 use Rattle.list_segment.proofs.cut.Tie as tie
 
-abbrev invariant-loop : tie.invariant-loop
+abbrev invariant-loop : tie.invariant-loop-i
 invariant-loop points n hi i₀ i = (i ≤ n) × (led (to_z w32 hi) points i ≡ i)
 
-abbrev decreases-loop : tie.decreases-loop
+abbrev decreases-loop : tie.decreases-loop-i
 decreases-loop points n hi i₀ i = n - i
 
-loop-holds : tie.Need-loop-init invariant-loop decreases-loop
+loop-holds : tie.Need-loop-i-init invariant-loop decreases-loop
 loop-holds c = (omega arith, refl)
 
-point-at-requires : tie.Need-point-at-requires invariant-loop decreases-loop
+point-at-requires : tie.Need-point_at-v-requires invariant-loop decreases-loop
 point-at-requires c κs = search rules
 
-returns : tie.Need-returns invariant-loop decreases-loop
+returns : tie.Need-returns-then-hi-v invariant-loop decreases-loop
 returns c =
-    let t = c.before.before.before.before.before in
-    let s = t.before in
-    let f = to_z-of_z s.ranges.hi in
-    let i = t.loop.invariant in
-    let p = c.before.before.before in
-    let v = p.point_at.result in
+    let t = c in
+    let s = t in
+    let f = to_z-of_z c.ranges.hi in
+    let i = c.loop-i.invariant in
+    let p = c in
+    let v = c.point_at-v.result in
     let g : SFits w32 v.a = search rules in
-    let e : up_to s.args.hi v ≡ false = past s.args.hi v (rw (f, to_z-of_z g) at c.if1.true) in
-    sym (led-stop s.args.hi s.args.points.now t.loop.i s.args.n (search rules) s.requires (rw f at i.1) (ap (up_to s.args.hi) (sym p.point_at.ensures) ∙ e))
+    let e : up_to c.args.hi v ≡ false = past c.args.hi v (rw (f, to_z-of_z g) at c.if-hi-v.true) in
+    sym (led-stop c.args.hi c.args.points.now c.loop-i.i c.args.n (search rules) c.requires (rw f at i.1) (ap (up_to c.args.hi) (sym c.point_at-v.ensures) ∙ e))
 
-add-i : tie.Need-overflow-add-i invariant-loop decreases-loop
+add-i : tie.Need-overflow_add-i invariant-loop decreases-loop
 add-i c = search rules
 
-loop-less : tie.Need-loop-smaller invariant-loop decreases-loop
+loop-less : tie.Need-loop-i-smaller invariant-loop decreases-loop
 loop-less c = search rules
 
-loop-again : tie.Need-loop-preserved invariant-loop decreases-loop
+loop-again : tie.Need-loop-i-preserved invariant-loop decreases-loop
 loop-again c =
-    let t = c.before.before.before.before.before in
-    let s = t.before in
-    let f = to_z-of_z s.ranges.hi in
-    let i = t.loop.invariant in
-    let p = c.before.before.before in
-    let v = p.point_at.result in
+    let t = c in
+    let s = t in
+    let f = to_z-of_z c.ranges.hi in
+    let i = c.loop-i.invariant in
+    let p = c in
+    let v = c.point_at-v.result in
     let g : SFits w32 v.a = search rules in
-    let e : up_to s.args.hi v ≡ true = not_past s.args.hi v (rw (f, to_z-of_z g) at c.if1.false) in
-    let q = s.requires in
-    let h : t.loop.i < s.args.n = search rules in
-    (omega arith, rw (f, add-one) (led-next s.args.hi s.args.points.now t.loop.i (omega arith) (rw f at i.1) (ap (up_to s.args.hi) (sym p.point_at.ensures) ∙ e)))
+    let e : up_to c.args.hi v ≡ true = not_past c.args.hi v (rw (f, to_z-of_z g) at c.if-hi-v.false) in
+    let q = c.requires in
+    let h : c.loop-i.i < c.args.n = search rules in
+    (omega arith, rw (f, add-one) (led-next c.args.hi c.args.points.now c.loop-i.i (omega arith) (rw f at i.1) (ap (up_to c.args.hi) (sym c.point_at-v.ensures) ∙ e)))
 
-returns-2 : tie.Need-returns-2 invariant-loop decreases-loop
+returns-2 : tie.Need-returns invariant-loop decreases-loop
 returns-2 c =
-    let t = c.before in
-    let s = t.before in
-    let i = t.loop.invariant in
-    let n : t.loop.i ≡ s.args.n = search rules in
-    rw (← n) (sym (rw (to_z-of_z s.ranges.hi) at i.1))
+    let t = c in
+    let s = t in
+    let i = c.loop-i.invariant in
+    let n : c.loop-i.i ≡ c.args.n = search rules in
+    rw (← n) (sym (rw (to_z-of_z c.ranges.hi) at i.1))
 
 pub cut_spec : {M : Type 1} → statement M
 cut_spec =

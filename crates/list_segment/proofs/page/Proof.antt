@@ -25,50 +25,50 @@ use Rattle.list_segment.proofs.page.Statement.{statement}
 use Rattle.list_segment.proofs.page.Tie as tie
 
 -- the hand-out
-module _ (h : tie.After-hand-out) where
+module _ (h : tie.After-hand_out-h) where
   abbrev start : tie.Start
   start = h.before.before.before.before
 
   abbrev old : List ℤ
-  old = h.before.before.point-buffer.result
+  old = h.point_buffer-points.result
 
   abbrev new : List ℤ
-  new = h.hand-out.last.1.1.0
+  new = h.hand_out-h.last.1.1.0
 
   abbrev all : List ℕ
   all = rest (listed_at start.args.job) (top span) (rank_of start.args.from)
 
-  gave : Gave numbers_in 4 all old (length old / 4) h.hand-out.result.count new (spot_of h.hand-out.result.spot)
-  gave = h.hand-out.ensures
+  gave : Gave numbers_in 4 all old (length old / 4) h.hand_out-h.result.count new (spot_of h.hand_out-h.result.spot)
+  gave = h.hand_out-h.ensures
 
   room : length old / 4 ≡ 1872
-  room = let e = h.before.before.point-buffer.ensures in omega arith
+  room = let e = h.point_buffer-points.ensures in omega arith
 
   same : length new ≡ length old
   same = search rules
 
-  few : h.hand-out.result.count ≤ 1872
+  few : h.hand_out-h.result.count ≤ 1872
   few = let c = gave.count in let l = length-take (length old / 4) all in let m = min-le_left (length old / 4) (length all) in let r = room in omega arith
 
 -- the cut and the lines
-module _ (p : tie.After-put-points) where
-  abbrev cutting : tie.After-cut
+module _ (p : tie.After-put_points-length) where
+  abbrev cutting : tie.After-cut-n
   cutting = p.before.before.before
 
-  abbrev out : tie.After-hand-out
+  abbrev out : tie.After-hand_out-h
   out = cutting.before.before.before
 
   abbrev args : tie.Start
   args = start out
 
   abbrev count : ℕ
-  count = out.hand-out.result.count
+  count = out.hand_out-h.result.count
 
   abbrev m : ℕ
-  m = cutting.cut.result
+  m = cutting.cut-n.result
 
   abbrev place : Place
-  place = spot_of out.hand-out.result.spot
+  place = spot_of out.hand_out-h.result.spot
 
   abbrev page : List ℕ
   page = take (length (old out) / 4) (all out)
@@ -77,15 +77,15 @@ module _ (p : tie.After-put-points) where
   segment = segment_from args.args.job args.args.hi (rank_of args.args.from)
 
   cut-is : m ≡ length (leading (up_to args.args.hi) (points_of (take (4 * count) (new out))))
-  cut-is = rw (to_z-of_z args.fits.hi) at cutting.cut.ensures
+  cut-is = rw (to_z-of_z args.ranges.hi) at cutting.cut-n.ensures
 
-  shows : Appended args.args.out.now 0 (rank_lines args.args.job.k (take m page)) p.put-points.last.0 p.put-points.result
+  shows : Appended args.args.out.now 0 (rank_lines args.args.job.k (take m page)) p.put_points-length.last.0 p.put_points-length.result
   shows =
-      subst (λ (l : List ℤ). Appended args.args.out.now 0 (lines_of args.args.job.k l) p.put-points.last.0 p.put-points.result)
-      (numbers args.args.job args.args.hi args.fits.hi (rank_of args.args.from) (length (old out) / 4) (old out) (new out) count m place (gave out) cut-is) p.put-points.ensures
+      subst (λ (l : List ℤ). Appended args.args.out.now 0 (lines_of args.args.job.k l) p.put_points-length.last.0 p.put_points-length.result)
+      (numbers args.args.job args.args.hi args.ranges.hi (rank_of args.args.from) (length (old out) / 4) (old out) (new out) count m place (gave out) cut-is) p.put_points-length.ensures
 
   -- a last page
-  ends : (r : Piece) → (r.more ≡ false) × (r.length ≡ p.put-points.result) → take m page ≡ segment → Paged args.args.job args.args.hi args.args.from r args.args.out.now p.put-points.last.0
+  ends : (r : Piece) → (r.more ≡ false) × (r.length ≡ p.put_points-length.result) → take m page ≡ segment → Paged args.args.job args.args.hi args.args.from r args.args.out.now p.put_points-length.last.0
   ends r (e, f) s = record {
     shown = take m page;
     text = rw f shows;
@@ -94,82 +94,82 @@ module _ (p : tie.After-put-points) where
   }
 
   stops : m < count → take m page ≡ segment
-  stops = page-cut args.args.job args.args.hi args.fits.hi (rank_of args.args.from) (length (old out) / 4) (old out) (new out) count m place (gave out) cut-is
+  stops = page-cut args.args.job args.args.hi args.ranges.hi (rank_of args.args.from) (length (old out) / 4) (old out) (new out) count m place (gave out) cut-is
 
   lasts : count ≤ m → place ≡ ended → take m page ≡ segment
-  lasts = page-last args.args.job args.args.hi args.fits.hi (rank_of args.args.from) (length (old out) / 4) (old out) (new out) count m place (gave out) cut-is
+  lasts = page-last args.args.job args.args.hi args.ranges.hi (rank_of args.args.from) (length (old out) / 4) (old out) (new out) count m place (gave out) cut-is
 
   -- one with more after it
-  goes : (v : Point) (r : Piece) → place ≡ at (rank_of v) → count ≤ m → r.from ≡ v → r.more ≡ true → r.length ≡ p.put-points.result → Paged args.args.job args.args.hi args.args.from r args.args.out.now p.put-points.last.0
+  goes : (v : Point) (r : Piece) → place ≡ at (rank_of v) → count ≤ m → r.from ≡ v → r.more ≡ true → r.length ≡ p.put_points-length.result → Paged args.args.job args.args.hi args.args.from r args.args.out.now p.put_points-length.last.0
   goes v r w h e f g = record {
     shown = take m page;
     text = rw g shows;
-    joined = rw (f, e) (page-more args.args.job args.args.hi args.fits.hi (rank_of args.args.from) (length (old out) / 4) (old out) (new out) count m place (gave out) cut-is (rank_of v) h w);
-    some = λ t. page-some args.args.job args.args.hi args.fits.hi (rank_of args.args.from) (length (old out) / 4) (old out) (new out) count m place (gave out) cut-is (rank_of v) (let r = room out in omega arith) h w;
+    joined = rw (f, e) (page-more args.args.job args.args.hi args.ranges.hi (rank_of args.args.from) (length (old out) / 4) (old out) (new out) count m place (gave out) cut-is (rank_of v) h w);
+    some = λ t. page-some args.args.job args.args.hi args.ranges.hi (rank_of args.args.from) (length (old out) / 4) (old out) (new out) count m place (gave out) cut-is (rank_of v) (let r = room out in omega arith) h w;
   }
 
-point-buffer-requires : tie.Need-point-buffer-requires
+point-buffer-requires : tie.Need-point_buffer-points-requires
 point-buffer-requires c κs = search rules
 
-slice-aggregate-hand-out : tie.Need-slice-aggregate-hand-out
+slice-aggregate-hand-out : tie.Need-slice_bounds-hand_out-end
 slice-aggregate-hand-out c = search rules
 
-hand-out-requires : tie.Need-hand-out-requires
+hand-out-requires : tie.Need-hand_out-h-requires
 hand-out-requires c κs = search rules
 
-slice-aggregate-cut : tie.Need-slice-aggregate-cut
+slice-aggregate-cut : tie.Need-slice_bounds-cut-end
 slice-aggregate-cut c = search rules
 
-cut-requires : tie.Need-cut-requires
-cut-requires c κs = let h = c.before.before in let f = few h in let s = same h in let r = room h in omega arith
+cut-requires : tie.Need-cut-n-requires
+cut-requires c κs = let h = c.before.before in let f = few c.before.before in let s = same c.before.before in let r = room c.before.before in omega arith
 
-slice-aggregate-put-points : tie.Need-slice-aggregate-put-points
+slice-aggregate-put-points : tie.Need-slice_bounds-put_points-end
 slice-aggregate-put-points c = search rules
 
-put-points-requires : tie.Need-put-points-requires
+put-points-requires : tie.Need-put_points-length-requires
 put-points-requires c κs =
-    let k = c.before.before in
+    let k = c in
     let h = k.before.before.before in
-    let s = start h in
-    let n = cut_short s.args.job s.args.hi s.fits.hi (rank_of s.args.from) (length (old h) / 4) (old h) (new h) h.hand-out.result.count k.cut.result (spot_of h.hand-out.result.spot) (gave h) (rw (to_z-of_z s.fits.hi) at k.cut.ensures) in
-    let f = few h in
-    let l = same h in
-    let r = room h in
+    let s = start c.before.before.before.before.before in
+    let n = cut_short s.args.job s.args.hi s.fits.hi (rank_of s.args.from) (length (old c.before.before.before.before.before) / 4) (old c.before.before.before.before.before) (new c.before.before.before.before.before) c.hand_out-h.result.count c.cut-n.result (spot_of c.hand_out-h.result.spot) (gave c.before.before.before.before.before) (rw (to_z-of_z s.fits.hi) at c.cut-n.ensures) in
+    let f = few c.before.before.before.before.before in
+    let l = same c.before.before.before.before.before in
+    let r = room c.before.before.before.before.before in
     let o = s.pre in
     (omega arith, omega arith)
 
 last-requires : tie.Need-last-requires
 last-requires c κs = search rules
 
-same_length : tie.Need-same-length
+same_length : tie.Need-shape_of-out-then-n-h
 same_length c = search rules
 
-returns : tie.Need-returns
-returns c = let p = c.before.before.before.before.before in ends p c.last.result c.last.ensures (stops p c.before.if1.true)
+returns : tie.Need-returns-then-n-h
+returns c = let p = c.before.before.before.before.before in ends c.before.before.before.before.before c.last.result c.last.ensures (stops c.before.before.before.before.before c.if-n-h.true)
 
-enum-known-s : tie.Need-enum-known-s
+enum-known-s : tie.Need-enum_known-s
 enum-known-s c = search rules
 
-enum_told : tie.Need-enum-told
+enum_told : tie.Need-enum_told-1
 enum_told c = search rules
 
-last-requires-2 : tie.Need-last-requires-2
+last-requires-2 : tie.Need-last-requires-in-Ended
 last-requires-2 c κs = search rules
 
-same-length-2 : tie.Need-same-length-2
+same-length-2 : tie.Need-shape_of-out-in-At
 same-length-2 c = search rules
 
-returns-2 : tie.Need-returns-2
-returns-2 c = let p = c.before.before.before.before.before.before.before in goes p _ _ (ap spot_of c.before.s.given.1) (search rules) refl refl refl
+returns-2 : tie.Need-returns-in-At
+returns-2 c = let p = c.before.before.before.before.before.before.before in goes c.before.before.before.before.before _ _ (ap spot_of c.in-At.is) (search rules) refl refl refl
 
-same-length-3 : tie.Need-same-length-3
+same-length-3 : tie.Need-shape_of-out-in-Ended
 same-length-3 c = search rules
 
-returns-3 : tie.Need-returns-3
-returns-3 c = let p = c.before.before.before.before.before.before.before in ends p c.last2.result c.last2.ensures (lasts p (search rules) (ap spot_of c.before.enum_told.given.1))
+returns-3 : tie.Need-returns-in-Ended
+returns-3 c = let p = c.before.before.before.before.before.before.before in ends c.before.before.before.before.before.before c.last-in-Ended.result c.last-in-Ended.ensures (lasts c.before.before.before.before.before.before (search rules) (ap spot_of c.in-Ended.is))
 
-pub page-spec : {M : Type 1} → statement M
-page-spec =
+pub page_spec : {M : Type 1} → statement M
+page_spec =
     tie.close
     (tie.spec
     point-buffer-requires

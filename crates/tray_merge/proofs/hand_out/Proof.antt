@@ -20,26 +20,26 @@ gave_none : (t : Tray) (ps : List ℕ) (old : List ℤ) (n : ℕ) → ps ≡ [] 
 gave_none t ps old n e =
     rw e (dealt_end (five_of t) 5 (λ r. refl) [] old 0 n old ended refl (dealt_none (five_of t) 5 (λ r. refl) [] old ended refl) (omega arith))
 
-enum-known-from : tie.Need-enum-known-from
+enum-known-from : tie.Need-enum_known-from
 enum-known-from c = search rules
 
 deal-requires : tie.Need-deal-requires
 deal-requires c κs = search rules
 
-enum_told : tie.Need-enum-told
+enum_told : tie.Need-enum_told-1
 enum_told c = search rules
 
-same_length : tie.Need-same-length
+same_length : tie.Need-shape_of-out
 same_length c = search rules
 
-returns : tie.Need-returns
-returns c = rw (ap spot_of c.before.before.before.before.from.given.1) c.before.deal.ensures
+returns : tie.Need-returns-in-At
+returns c = rw (ap spot_of c.in-At.is) c.deal.ensures
 
-returns-2 : tie.Need-returns-2
+returns-2 : tie.Need-returns-in-Ended
 returns-2 c =
-    let s = c.before.before in
-    gave_none s.args.t _ _ _ (ap (λ p. left_at (any_at s.args.t) (top span) (spot_of p)) c.enum_told.given.1)
+    let s = c in
+    gave_none c.args.t _ _ _ (ap (λ p. left_at (any_at c.args.t) (top span) (spot_of p)) c.in-Ended.is)
 
-pub hand-out-spec : {M : Type 1} → statement M
-hand-out-spec =
+pub hand_out_spec : {M : Type 1} → statement M
+hand_out_spec =
     tie.close (tie.spec enum-known-from deal-requires enum_told same_length returns returns-2)

@@ -8,5 +8,5 @@ use Rattle.session_stages.proofs.place.before_all.Tie as tie
 returns : tie.Need-returns
 returns c = ap at (rank-zero span)
 
-pub before-all-spec : {M : Type 1} → statement M
-before-all-spec = tie.close (tie.spec returns)
+pub before_all_spec : {M : Type 1} → statement M
+before_all_spec = tie.close (tie.spec returns)

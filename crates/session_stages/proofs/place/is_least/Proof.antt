@@ -40,29 +40,29 @@ yes z f e = sym (bits z f) ∙ eq-eqb (of_z w32 z) 2147483648 e
 no : (z : ℤ) → SFits w32 z → (of_z w32 z ≡ 2147483648 → ⊥) → eqb (digit z) 0 ≡ false
 no z f e = sym (bits z f) ∙ ne_eqb (of_z w32 z) 2147483648 e
 
-returns : tie.Need-returns
+returns : tie.Need-returns-then-v-eq-LEAST-3
 returns c =
-    let t = c.before.before in
-    let u = t.before.before.before in
-    let w = u.before.before.before in
+    let t = c in
+    let u = t in
+    let w = u in
     let s = w.before.before.before in
-    rw (yes s.args.v.a (fits-a s) w.if1.true, yes s.args.v.b (fits-b s) u.if2.true, yes s.args.v.c (fits-c s) t.if3.true) (bits s.args.v.d (fits-d s))
+    rw (yes c.args.v.a (fits-a c.before.before.before.before.before.before.before.before.before.before.before) c.if-v-eq-LEAST.true, yes c.args.v.b (fits-b c.before.before.before.before.before.before.before.before.before.before.before) c.if-v-eq-LEAST-2.true, yes c.args.v.c (fits-c c.before.before.before.before.before.before.before.before.before.before.before) c.if-v-eq-LEAST-3.true) (bits c.args.v.d (fits-d c.before.before.before.before.before.before.before.before.before.before.before))
 
-returns-2 : tie.Need-returns-2
+returns-2 : tie.Need-returns-else-v-eq-LEAST-3
 returns-2 c =
-    let u = c.before.before.before in
-    let w = u.before.before.before in
+    let u = c in
+    let w = u in
     let s = w.before.before.before in
-    rw (yes s.args.v.a (fits-a s) w.if1.true, yes s.args.v.b (fits-b s) u.if2.true, no s.args.v.c (fits-c s) c.if3.false) refl
+    rw (yes c.args.v.a (fits-a c.before.before.before.before.before.before.before.before.before) c.if-v-eq-LEAST.true, yes c.args.v.b (fits-b c.before.before.before.before.before.before.before.before.before) c.if-v-eq-LEAST-2.true, no c.args.v.c (fits-c c.before.before.before.before.before.before.before.before.before) c.if-v-eq-LEAST-3.false) refl
 
-returns-3 : tie.Need-returns-3
+returns-3 : tie.Need-returns-else-v-eq-LEAST-2
 returns-3 c =
-    let w = c.before.before.before in
+    let w = c in
     let s = w.before.before.before in
-    rw (yes s.args.v.a (fits-a s) w.if1.true, no s.args.v.b (fits-b s) c.if2.false) refl
+    rw (yes c.args.v.a (fits-a c.before.before.before.before.before.before) c.if-v-eq-LEAST.true, no c.args.v.b (fits-b c.before.before.before.before.before.before) c.if-v-eq-LEAST-2.false) refl
 
-returns-4 : tie.Need-returns-4
-returns-4 c = let s = c.before.before.before in rw (no s.args.v.a (fits-a s) c.if1.false) refl
+returns-4 : tie.Need-returns-else-v-eq-LEAST
+returns-4 c = let s = c.before.before.before in rw (no c.args.v.a (fits-a c.before.before.before) c.if-v-eq-LEAST.false) refl
 
-pub is-least-spec : {M : Type 1} → statement M
-is-least-spec = tie.close (tie.spec returns returns-2 returns-3 returns-4)
+pub is_least_spec : {M : Type 1} → statement M
+is_least_spec = tie.close (tie.spec returns returns-2 returns-3 returns-4)

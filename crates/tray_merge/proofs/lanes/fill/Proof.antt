@@ -16,7 +16,7 @@ use Rattle.tray_merge.proofs.lanes.fill.Statement.{statement}
 use Rattle.tray_merge.proofs.lanes.fill.Tie as tie
 
 -- what the walk wrote to the lane's part of the queue
-module _ (h : tie.After-walk-on) where
+module _ (h : tie.After-walk_on) where
   abbrev start : tie.Start
   start = h.before.before
 
@@ -42,7 +42,7 @@ module _ (h : tie.After-walk-on) where
   old = take (end - place) (drop place queue)
 
   abbrev new : List ℤ
-  new = h.walk-on.last.1.1.0
+  new = h.walk_on.last.1.1.0
 
   abbrev front : List ℤ
   front = take place queue
@@ -51,7 +51,7 @@ module _ (h : tie.After-walk-on) where
   behind = post_of place (end - place) queue
 
   long : end ≤ length queue
-  long = let p = start.pre in omega arith
+  long = let p = start.requires in omega arith
 
   front_long : length front ≡ place
   front_long = length-take-le place queue (let l = long in omega arith)
@@ -59,54 +59,54 @@ module _ (h : tie.After-walk-on) where
   old-long : length old ≡ 4 * count_of
   old-long = let l = long in length-take-le (end - place) (drop place queue) (omega (arith, length-drop place queue)) ∙ omega arith
 
-  gave : Gave numbers_in 4 (left_of job from) old count_of h.walk-on.result.count new (spot_of h.walk-on.result.spot)
+  gave : Gave numbers_in 4 (left_of job from) old count_of h.walk_on.result.count new (spot_of h.walk_on.result.spot)
   gave =
       let sized : length old / 4 ≡ count_of = let l = old-long in omega arith in
-      subst (λ (m : ℕ). Gave numbers_in 4 (left_of job from) old m h.walk-on.result.count new (spot_of h.walk-on.result.spot)) sized h.walk-on.ensures
+      subst (λ (m : ℕ). Gave numbers_in 4 (left_of job from) old m h.walk_on.result.count new (spot_of h.walk_on.result.spot)) sized h.walk_on.ensures
 
   elsewhere : Elsewhere start.args.j queue (front ++ (new ++ behind))
   elsewhere =
-      let p = start.pre in
+      let p = start.requires in
       let same : length new ≡ length old = search rules in
-      filled_elsewhere job from count_of place old new front behind h.walk-on.result.count (spot_of h.walk-on.result.spot) gave front_long start.args.j queue refl p.2 (same ∙ old-long) refl
+      filled_elsewhere job from count_of place old new front behind h.walk_on.result.count (spot_of h.walk_on.result.spot) gave front_long start.args.j queue refl p.2 (same ∙ old-long) refl
       (Post-is place end queue (omega arith)) long
 
-mul-start : tie.Need-overflow-mul-start
+mul-start : tie.Need-overflow_mul-start
 mul-start c = search rules
 
-mul-end : tie.Need-overflow-mul-end
+mul-end : tie.Need-overflow_mul-end
 mul-end c = search rules
 
-add-end : tie.Need-overflow-add-end
+add-end : tie.Need-overflow_add-end
 add-end c = search rules
 
-mul-walk-on : tie.Need-overflow-mul-walk-on
+mul-walk-on : tie.Need-offset_bounds-queue-start
 mul-walk-on c = search rules
 
-sub-walk-on : tie.Need-overflow-sub-walk-on
+sub-walk-on : tie.Need-slice_bounds-walk_on-count
 sub-walk-on c = search rules
 
-part-walk-on-start : tie.Need-slice-bounds-walk-on-start
+part-walk-on-start : tie.Need-slice_bounds-walk_on-start
 part-walk-on-start c = search rules
 
-part-walk-on-end : tie.Need-slice-bounds-walk-on-end
+part-walk-on-end : tie.Need-slice_bounds-walk_on-end
 part-walk-on-end c = search rules
 
-walk-on-requires : tie.Need-walk-on-requires
-walk-on-requires c κs = c.before.requires.0
+walk-on-requires : tie.Need-walk_on-requires
+walk-on-requires c κs = c.requires.0
 
-same_length : tie.Need-same-length
+same_length : tie.Need-shape_of-queue
 same_length c = search rules
 
 returns : tie.Need-returns
 returns c =
     let h = c.before in
-    let s = start h in
+    let s = start c.before in
     let p = s.pre in (
-      filled_content (job h) (from h) (count_of h) (place h) (old h) (new h) (front h) (behind h) h.walk-on.result.count (spot_of h.walk-on.result.spot) (gave h) (front_long h) s.args.j refl,
-      filled_few (job h) (from h) (count_of h) (place h) (old h) (new h) (front h) (behind h) h.walk-on.result.count (spot_of h.walk-on.result.spot) (gave h) (front_long h) p.2,
-      filled_none (job h) (from h) (count_of h) (place h) (old h) (new h) (front h) (behind h) h.walk-on.result.count (spot_of h.walk-on.result.spot) (gave h) (front_long h) p.1,
-      elsewhere h,
+      filled_content (job c.before) (from c.before) (count_of c.before) (place c.before) (old c.before) (new c.before) (front c.before) (behind c.before) c.walk_on.result.count (spot_of c.walk_on.result.spot) (gave c.before) (front_long c.before) s.args.j refl,
+      filled_few (job c.before) (from c.before) (count_of c.before) (place c.before) (old c.before) (new c.before) (front c.before) (behind c.before) c.walk_on.result.count (spot_of c.walk_on.result.spot) (gave c.before) (front_long c.before) p.2,
+      filled_none (job c.before) (from c.before) (count_of c.before) (place c.before) (old c.before) (new c.before) (front c.before) (behind c.before) c.walk_on.result.count (spot_of c.walk_on.result.spot) (gave c.before) (front_long c.before) p.1,
+      elsewhere c.before,
     )
 
 pub fill_spec : {M : Type 1} → statement M

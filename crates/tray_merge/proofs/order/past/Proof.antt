@@ -3,20 +3,20 @@ use borrow.Author.Rules.{rules}
 use Rattle.tray_merge.proofs.order.past.Statement.{statement}
 use Rattle.tray_merge.proofs.order.past.Tie as tie
 
-enum-known-s : tie.Need-enum-known-s
+enum-known-s : tie.Need-enum_known-s
 enum-known-s c = search rules
 
-is-before-requires : tie.Need-is-before-requires
+is-before-requires : tie.Need-is_before-requires
 is-before-requires c κs = search rules
 
-enum_told : tie.Need-enum-told
+enum_told : tie.Need-enum_told-1
 enum_told c = search rules
 
-returns : tie.Need-returns
-returns c = c.is-before.ensures ∙ rw c.before.before.s.given.1 refl
+returns : tie.Need-returns-in-At
+returns c = c.is_before.ensures ∙ rw c.in-At.is refl
 
-returns-2 : tie.Need-returns-2
+returns-2 : tie.Need-returns-in-Ended
 returns-2 c = search rules
 
-pub past-spec : {M : Type 1} → statement M
-past-spec = tie.close (tie.spec enum-known-s is-before-requires enum_told returns returns-2)
+pub past_spec : {M : Type 1} → statement M
+past_spec = tie.close (tie.spec enum-known-s is-before-requires enum_told returns returns-2)
