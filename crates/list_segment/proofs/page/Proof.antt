@@ -33,7 +33,7 @@ module _ (h : tie.After-hand_out-h) where
   old = h.point_buffer-points.result
 
   abbrev new : List ℤ
-  new = h.hand_out-h.last.1.1.0
+  new = h.hand_out-h.new.from.1.0
 
   abbrev all : List ℕ
   all = rest (listed_at start.args.job) (top span) (rank_of start.args.from)
@@ -79,13 +79,13 @@ module _ (p : tie.After-put_points-length) where
   cut-is : m ≡ length (leading (up_to args.args.hi) (points_of (take (4 * count) (new out))))
   cut-is = rw (to_z-of_z args.ranges.hi) at cutting.cut-n.ensures
 
-  shows : Appended args.args.out.now 0 (rank_lines args.args.job.k (take m page)) p.put_points-length.last.0 p.put_points-length.result
+  shows : Appended args.args.out.now 0 (rank_lines args.args.job.k (take m page)) p.put_points-length.new.out p.put_points-length.result
   shows =
-      subst (λ (l : List ℤ). Appended args.args.out.now 0 (lines_of args.args.job.k l) p.put_points-length.last.0 p.put_points-length.result)
+      subst (λ (l : List ℤ). Appended args.args.out.now 0 (lines_of args.args.job.k l) p.put_points-length.new.out p.put_points-length.result)
       (numbers args.args.job args.args.hi args.ranges.hi (rank_of args.args.from) (length (old out) / 4) (old out) (new out) count m place (gave out) cut-is) p.put_points-length.ensures
 
   -- a last page
-  ends : (r : Piece) → (r.more ≡ false) × (r.length ≡ p.put_points-length.result) → take m page ≡ segment → Paged args.args.job args.args.hi args.args.from r args.args.out.now p.put_points-length.last.0
+  ends : (r : Piece) → (r.more ≡ false) × (r.length ≡ p.put_points-length.result) → take m page ≡ segment → Paged args.args.job args.args.hi args.args.from r args.args.out.now p.put_points-length.new.out
   ends r (e, f) s = record {
     shown = take m page;
     text = rw f shows;
@@ -100,7 +100,7 @@ module _ (p : tie.After-put_points-length) where
   lasts = page-last args.args.job args.args.hi args.ranges.hi (rank_of args.args.from) (length (old out) / 4) (old out) (new out) count m place (gave out) cut-is
 
   -- one with more after it
-  goes : (v : Point) (r : Piece) → place ≡ at (rank_of v) → count ≤ m → r.from ≡ v → r.more ≡ true → r.length ≡ p.put_points-length.result → Paged args.args.job args.args.hi args.args.from r args.args.out.now p.put_points-length.last.0
+  goes : (v : Point) (r : Piece) → place ≡ at (rank_of v) → count ≤ m → r.from ≡ v → r.more ≡ true → r.length ≡ p.put_points-length.result → Paged args.args.job args.args.hi args.args.from r args.args.out.now p.put_points-length.new.out
   goes v r w h e f g = record {
     shown = take m page;
     text = rw g shows;
@@ -131,7 +131,7 @@ put-points-requires c κs =
     let k = c in
     let h = k.before.before.before in
     let s = start c.before.before.before.before.before in
-    let n = cut_short s.args.job s.args.hi s.fits.hi (rank_of s.args.from) (length (old c.before.before.before.before.before) / 4) (old c.before.before.before.before.before) (new c.before.before.before.before.before) c.hand_out-h.result.count c.cut-n.result (spot_of c.hand_out-h.result.spot) (gave c.before.before.before.before.before) (rw (to_z-of_z s.fits.hi) at c.cut-n.ensures) in
+    let n = cut_short s.args.job s.args.hi s.ranges.hi (rank_of s.args.from) (length (old c.before.before.before.before.before) / 4) (old c.before.before.before.before.before) (new c.before.before.before.before.before) c.hand_out-h.result.count c.cut-n.result (spot_of c.hand_out-h.result.spot) (gave c.before.before.before.before.before) (rw (to_z-of_z s.ranges.hi) at c.cut-n.ensures) in
     let f = few c.before.before.before.before.before in
     let l = same c.before.before.before.before.before in
     let r = room c.before.before.before.before.before in

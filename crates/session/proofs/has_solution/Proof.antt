@@ -5,24 +5,24 @@ use borrow.Author.Rules.{rules}
 use Rattle.session.proofs.has_solution.Statement.{statement}
 use Rattle.session.proofs.has_solution.Tie as tie
 
-enum_told : tie.Need-enum-told
+enum_told : tie.Need-enum_told-1
 enum_told c = search rules
 
-enum-known-g : tie.Need-enum-known-g
+enum-known-g : tie.Need-enum_known-g
 enum-known-g c = search rules
 
-has-solution-requires : tie.Need-has-solution-requires
+has-solution-requires : tie.Need-has_solution-requires
 has-solution-requires c κs = search rules
 
-returns : tie.Need-returns
-returns c = steps (rw c.enum_told.given.1 refl)
+returns : tie.Need-returns-in-Early
+returns c = steps (rw c.in-Early.is refl)
 
-returns-2 : tie.Need-returns-2
+returns-2 : tie.Need-returns-in-Walking
 unfolding full
-returns-2 c = steps (rw (c.before.before.g.given.1, c.has-solution.ensures) refl)
+returns-2 c = steps (rw (c.in-Walking.is, c.has_solution.ensures) refl)
 
-pub has-solution-spec : {M : Type 1} → statement M
-has-solution-spec =
+pub has_solution_spec : {M : Type 1} → statement M
+has_solution_spec =
     tie.close
     (tie.spec
     enum_told

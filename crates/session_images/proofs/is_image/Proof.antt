@@ -4,31 +4,31 @@ use borrow.Author.Rules.{rules}
 use Rattle.session_images.proofs.is_image.Statement.{statement}
 use Rattle.session_images.proofs.is_image.Tie as tie
 
-inverse-requires : tie.Need-inverse-requires
+inverse-requires : tie.Need-inverse-i-requires
 inverse-requires c κs = search rules
 
-enum-known-i : tie.Need-enum-known-i
+enum-known-i : tie.Need-enum_known-i
 enum-known-i c = search rules
 
 image-requires : tie.Need-image-requires
 image-requires c κs = search rules
 
-lists-wide-requires : tie.Need-lists-wide-requires
+lists-wide-requires : tie.Need-lists_wide-requires
 lists-wide-requires c κs = search rules
 
-enum_told : tie.Need-enum-told
+enum_told : tie.Need-enum_told-1
 enum_told c = search rules
 
-returns : tie.Need-returns
+returns : tie.Need-returns-in-Operator
 unfolding is_image
-returns c = c.lists-wide.ensures ∙ rw (sym c.before.before.before.before.before.inverse.ensures.inverse ∙ c.before.before.before.i.given.1, c.before.image.ensures) refl
+returns c = c.lists_wide.ensures ∙ rw (sym c.inverse-i.ensures.inverse ∙ c.in-Operator.is, c.image.ensures) refl
 
-returns-2 : tie.Need-returns-2
+returns-2 : tie.Need-returns-in-Refused
 unfolding is_image
-returns-2 c = rw (sym c.before.before.inverse.ensures.inverse ∙ c.enum_told.given.1) refl
+returns-2 c = rw (sym c.inverse-i.ensures.inverse ∙ c.in-Refused.is) refl
 
-pub is-image-spec : {M : Type 1} → statement M
-is-image-spec =
+pub is_image_spec : {M : Type 1} → statement M
+is_image_spec =
     tie.close
     (tie.spec
     inverse-requires

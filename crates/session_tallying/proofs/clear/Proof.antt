@@ -14,7 +14,7 @@ kept-requires : tie.Need-kept-requires
 kept-requires c κs = search rules
 
 returns : tie.Need-returns
-returns c = let k = c.kept.ensures in record { met = rw (k.0, k.2) c.before.before.clear.ensures; tally = k.1 ∙ c.before.zero.ensures }
+returns c = let k = c.kept.ensures in record { met = rw (k.0, k.2) c.clear.ensures; tally = k.1 ∙ c.zero.ensures }
 
 pub clear_spec : {M : Type 1} → statement M
 clear_spec = tie.close (tie.spec clear-requires zero-requires kept-requires returns)

@@ -11,7 +11,7 @@ zero-requires : tie.Need-zero-requires
 zero-requires c κs = search rules
 
 returns : tie.Need-returns
-returns c = rw (c.before.start.ensures, c.zero.ensures) refl
+returns c = rw (c.start.ensures, c.zero.ensures) refl
 
 pub start_spec : {M : Type 1} → statement M
 start_spec = tie.close (tie.spec start-requires zero-requires returns)

@@ -3,25 +3,25 @@ use borrow.Author.Rules.{rules}
 use Rattle.session_turns.proofs.noted.Statement.{statement}
 use Rattle.session_turns.proofs.noted.Tie as tie
 
-enum_told : tie.Need-enum-told
+enum_told : tie.Need-enum_told-1
 enum_told c = search rules
 
-out-of-turn-requires : tie.Need-out-of-turn-requires
+out-of-turn-requires : tie.Need-out_of_turn-requires
 out-of-turn-requires c κs = search rules
 
-enum-told-2 : tie.Need-enum-told-2
+enum-told-2 : tie.Need-enum_told-in-Selection
 enum-told-2 c = search rules
 
-out-of-turn-requires-2 : tie.Need-out-of-turn-requires-2
+out-of-turn-requires-2 : tie.Need-out_of_turn-requires-in-Selection
 out-of-turn-requires-2 c κs = search rules
 
-enum-told-3 : tie.Need-enum-told-3
+enum-told-3 : tie.Need-enum_told-in-Region
 enum-told-3 c = search rules
 
-out-of-turn-requires-3 : tie.Need-out-of-turn-requires-3
+out-of-turn-requires-3 : tie.Need-out_of_turn-requires-in-Region
 out-of-turn-requires-3 c κs = search rules
 
-enum-known-x : tie.Need-enum-known-x
+enum-known-x : tie.Need-enum_known-x
 enum-known-x c = search rules
 
 remembering-requires : tie.Need-remembering-requires
@@ -30,20 +30,20 @@ remembering-requires c κs = search rules
 taken-requires : tie.Need-taken-requires
 taken-requires c κs = search rules
 
-returns : tie.Need-returns
-returns c = rw (c.out-of-turn.ensures.0, c.out-of-turn.ensures.1, c.before.enum_told.given.1) refl
+returns : tie.Need-returns-in-Scale
+returns c = rw (c.out_of_turn.ensures.0, c.out_of_turn.ensures.1, c.in-Scale.is) refl
 
-returns-2 : tie.Need-returns-2
-returns-2 c = rw (c.out-of-turn2.ensures.0, c.out-of-turn2.ensures.1, c.before.enum-told2.given.1) refl
+returns-2 : tie.Need-returns-in-Selection
+returns-2 c = rw (c.out_of_turn-in-Selection.ensures.0, c.out_of_turn-in-Selection.ensures.1, c.in-Selection.is) refl
 
-returns-3 : tie.Need-returns-3
-returns-3 c = rw (c.out-of-turn3.ensures.0, c.out-of-turn3.ensures.1, c.before.enum-told3.given.1) refl
+returns-3 : tie.Need-returns-in-Region
+returns-3 c = rw (c.out_of_turn-in-Region.ensures.0, c.out_of_turn-in-Region.ensures.1, c.in-Region.is) refl
 
-returns-4 : tie.Need-returns-4
-returns-4 c = let e = c.before.remembering.ensures in rw (c.taken.ensures.0, c.taken.ensures.1, e.0, e.1, e.2, c.before.before.before.x.given.1) refl
+returns-4 : tie.Need-returns-in-Operator
+returns-4 c = let e = c.remembering.ensures in rw (c.taken.ensures.0, c.taken.ensures.1, e.0, e.1, e.2, c.in-Operator.is) refl
 
-pub noted-spec : {M : Type 1} → statement M
-noted-spec =
+pub noted_spec : {M : Type 1} → statement M
+noted_spec =
     tie.close
     (tie.spec
     enum_told

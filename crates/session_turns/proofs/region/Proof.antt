@@ -3,50 +3,50 @@ use borrow.Author.Rules.{rules}
 use Rattle.session_turns.proofs.region.Statement.{statement}
 use Rattle.session_turns.proofs.region.Tie as tie
 
-enum_told : tie.Need-enum-told
+enum_told : tie.Need-enum_told-1
 enum_told c = search rules
 
-out-of-turn-requires : tie.Need-out-of-turn-requires
+out-of-turn-requires : tie.Need-out_of_turn-requires
 out-of-turn-requires c κs = search rules
 
-enum-known-p : tie.Need-enum-known-p
+enum-known-p : tie.Need-enum_known-p
 enum-known-p c = search rules
 
 taken-requires : tie.Need-taken-requires
 taken-requires c κs = search rules
 
-enum-known-p-2 : tie.Need-enum-known-p-2
+enum-known-p-2 : tie.Need-enum_known-p-in-Selected-1
 enum-known-p-2 c = search rules
 
-taken-requires-2 : tie.Need-taken-requires-2
+taken-requires-2 : tie.Need-taken-requires-in-Selected
 taken-requires-2 c κs = search rules
 
-enum-known-p-3 : tie.Need-enum-known-p-3
+enum-known-p-3 : tie.Need-enum_known-p-in-First-1
 enum-known-p-3 c = search rules
 
-before-all-requires : tie.Need-before-all-requires
+before-all-requires : tie.Need-before_all-requires
 before-all-requires c κs = search rules
 
 identity-requires : tie.Need-identity-requires
 identity-requires c κs = search rules
 
-taken-requires-3 : tie.Need-taken-requires-3
+taken-requires-3 : tie.Need-taken-requires-in-First
 taken-requires-3 c κs = search rules
 
-returns : tie.Need-returns
-returns c = rw (c.out-of-turn.ensures.0, c.out-of-turn.ensures.1, c.before.enum_told.given.1) refl
+returns : tie.Need-returns-in-Nothing
+returns c = rw (c.out_of_turn.ensures.0, c.out_of_turn.ensures.1, c.in-Nothing.is) refl
 
-returns-2 : tie.Need-returns-2
-returns-2 c = rw (c.taken.ensures.0, c.taken.ensures.1, c.before.before.p.given.1) refl
+returns-2 : tie.Need-returns-in-Scaled
+returns-2 c = rw (c.taken.ensures.0, c.taken.ensures.1, c.in-Scaled.is) refl
 
-returns-3 : tie.Need-returns-3
-returns-3 c = rw (c.taken2.ensures.0, c.taken2.ensures.1, c.before.before.p2.given.1) refl
+returns-3 : tie.Need-returns-in-Selected
+returns-3 c = rw (c.taken-in-Selected.ensures.0, c.taken-in-Selected.ensures.1, c.in-Selected.is) refl
 
-returns-4 : tie.Need-returns-4
-returns-4 c = rw (c.taken3.ensures.0, c.taken3.ensures.1, c.before.before.before.before.p3.given.1, c.before.before.before-all.ensures, c.before.identity.ensures) refl
+returns-4 : tie.Need-returns-in-First
+returns-4 c = rw (c.taken-in-First.ensures.0, c.taken-in-First.ensures.1, c.in-First.is, c.before_all.ensures, c.identity.ensures) refl
 
-pub region-spec : {M : Type 1} → statement M
-region-spec =
+pub region_spec : {M : Type 1} → statement M
+region_spec =
     tie.close
     (tie.spec
     enum_told

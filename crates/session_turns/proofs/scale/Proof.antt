@@ -3,44 +3,44 @@ use borrow.Author.Rules.{rules}
 use Rattle.session_turns.proofs.scale.Statement.{statement}
 use Rattle.session_turns.proofs.scale.Tie as tie
 
-enum_told : tie.Need-enum-told
+enum_told : tie.Need-enum_told-1
 enum_told c = search rules
 
 taken-requires : tie.Need-taken-requires
 taken-requires c κs = search rules
 
-enum-told-2 : tie.Need-enum-told-2
+enum-told-2 : tie.Need-enum_told-in-Scaled
 enum-told-2 c = search rules
 
-out-of-turn-requires : tie.Need-out-of-turn-requires
+out-of-turn-requires : tie.Need-out_of_turn-requires
 out-of-turn-requires c κs = search rules
 
-enum-told-3 : tie.Need-enum-told-3
+enum-told-3 : tie.Need-enum_told-in-Selected
 enum-told-3 c = search rules
 
-out-of-turn-requires-2 : tie.Need-out-of-turn-requires-2
+out-of-turn-requires-2 : tie.Need-out_of_turn-requires-in-Selected
 out-of-turn-requires-2 c κs = search rules
 
-enum-told-4 : tie.Need-enum-told-4
+enum-told-4 : tie.Need-enum_told-in-First
 enum-told-4 c = search rules
 
-out-of-turn-requires-3 : tie.Need-out-of-turn-requires-3
+out-of-turn-requires-3 : tie.Need-out_of_turn-requires-in-First
 out-of-turn-requires-3 c κs = search rules
 
-returns : tie.Need-returns
-returns c = rw (c.taken.ensures.0, c.taken.ensures.1, c.before.enum_told.given.1) refl
+returns : tie.Need-returns-in-Nothing
+returns c = rw (c.taken.ensures.0, c.taken.ensures.1, c.in-Nothing.is) refl
 
-returns-2 : tie.Need-returns-2
-returns-2 c = rw (c.out-of-turn.ensures.0, c.out-of-turn.ensures.1, c.before.enum-told2.given.1) refl
+returns-2 : tie.Need-returns-in-Scaled
+returns-2 c = rw (c.out_of_turn.ensures.0, c.out_of_turn.ensures.1, c.in-Scaled.is) refl
 
-returns-3 : tie.Need-returns-3
-returns-3 c = rw (c.out-of-turn2.ensures.0, c.out-of-turn2.ensures.1, c.before.enum-told3.given.1) refl
+returns-3 : tie.Need-returns-in-Selected
+returns-3 c = rw (c.out_of_turn-in-Selected.ensures.0, c.out_of_turn-in-Selected.ensures.1, c.in-Selected.is) refl
 
-returns-4 : tie.Need-returns-4
-returns-4 c = rw (c.out-of-turn3.ensures.0, c.out-of-turn3.ensures.1, c.before.enum-told4.given.1) refl
+returns-4 : tie.Need-returns-in-First
+returns-4 c = rw (c.out_of_turn-in-First.ensures.0, c.out_of_turn-in-First.ensures.1, c.in-First.is) refl
 
-pub scale-spec : {M : Type 1} → statement M
-scale-spec =
+pub scale_spec : {M : Type 1} → statement M
+scale_spec =
     tie.close
     (tie.spec
     enum_told

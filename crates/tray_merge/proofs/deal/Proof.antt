@@ -92,13 +92,13 @@ module _ (r : tie.After-refill-near invariant-loop decreases-loop) where
   sized = floored.regions-size.ensures
 
   abbrev first-queue : List ℤ
-  first-queue = r.refill-near.last.1.1.1.1.1.0
+  first-queue = r.refill-near.new.marks.marks.marks.1.1.0
 
   abbrev first-at : List ℕ
-  first-at = r.refill-near.last.1.1.1.1.1.1.0
+  first-at = r.refill-near.new.marks.marks.marks.1.1.1.0
 
   abbrev first-end : List ℕ
-  first-end = r.refill-near.last.1.1.1.1.1.1.1.0
+  first-end = r.refill-near.new.marks.marks.marks.1.1.1.1.0
 
   abbrev none : List ℕ
   none = replicate 8 0
@@ -133,13 +133,13 @@ module _ (x : tie.After-refill-after invariant-loop decreases-loop) where
   root = fill-of front_of
 
   abbrev second-queue : List ℤ
-  second-queue = x.refill-after.last.1.1.1.1.1.0
+  second-queue = x.refill-after.new.marks.marks.marks.1.1.0
 
   abbrev second_at : List ℕ
-  second_at = x.refill-after.last.1.1.1.1.1.1.0
+  second_at = x.refill-after.new.marks.marks.marks.1.1.1.0
 
   abbrev second-end : List ℕ
-  second-end = x.refill-after.last.1.1.1.1.1.1.1.0
+  second-end = x.refill-after.new.marks.marks.marks.1.1.1.1.0
 
   second-long : length second-queue ≡ 16384
   second-long =
@@ -206,10 +206,10 @@ module _ (f : tie.In-At-2 invariant-loop decreases-loop) where
 -- behind it
 module _ (a : tie.After-advance-s invariant-loop decreases-loop) where
   abbrev at_f : tie.In-At-2 invariant-loop decreases-loop
-  at_f = a.before.before.before.before.before.before
+  at_f = a.before.before.before.before
 
   abbrev next-at : List ℕ
-  next-at = a.advance-s.last.1.0
+  next-at = a.advance-s.new.v.0
 
   abbrev now_of : tie.At-loop-k invariant-loop decreases-loop
   now_of = loop-of at_f
@@ -252,7 +252,7 @@ module _ (o : tie.After-out-1 invariant-loop decreases-loop) where
       let test = (at_f adv).before.before.loop-k-test.taken in
       dealt_more (five_of (tray (base adv))) 5 (λ x. refl) (any_at (tray (base adv))) (top span) (spot_of here.nearest-f.result) old here.loop-k.k here.loop-k.out (rank_of (point (at_f adv))) w d (omega arith) e
 
-  written : o.put_five.last.0 ≡ new
+  written : o.put_five.new.out ≡ new
   written = o.put_five.ensures ∙ five (tray (base adv)) (rank_of (point (at_f adv))) here.loop-k.out (5 * here.loop-k.k) adv.advance-s.result.mask (mask_is adv)
 
   new-long : length new ≡ length old
@@ -408,13 +408,13 @@ module _ (r : tie.After-refill-marks invariant-loop decreases-loop) where
   out_of = r.before.before.before.before.before.before
 
   abbrev again-queue : List ℤ
-  again-queue = r.refill-marks.last.1.1.1.1.1.0
+  again-queue = r.refill-marks.new.marks.marks.marks.1.1.0
 
   abbrev again-at : List ℕ
-  again-at = r.refill-marks.last.1.1.1.1.1.1.0
+  again-at = r.refill-marks.new.marks.marks.marks.1.1.1.0
 
   abbrev again-end : List ℕ
-  again-end = r.refill-marks.last.1.1.1.1.1.1.1.0
+  again-end = r.refill-marks.new.marks.marks.marks.1.1.1.1.0
 
   again-long : length again-queue ≡ 16384
   again-long =

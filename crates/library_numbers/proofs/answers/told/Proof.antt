@@ -9,5 +9,5 @@ flag-requires c κs = search rules
 returns : tie.Need-returns
 returns c = rw c.flag.ensures refl
 
-pub told-spec : {M : Type 1} → statement M
-told-spec = tie.close (tie.spec flag-requires returns)
+pub told_spec : {M : Type 1} → statement M
+told_spec = tie.close (tie.spec flag-requires returns)

@@ -3,29 +3,29 @@ use borrow.Author.Rules.{rules}
 use Rattle.library_numbers.proofs.back.course_of.Statement.{statement}
 use Rattle.library_numbers.proofs.back.course_of.Tie as tie
 
-region-of-requires : tie.Need-region-of-requires
+region-of-requires : tie.Need-region_of-a-requires
 region-of-requires c κs = search rules
 
-region-of-requires-2 : tie.Need-region-of-requires-2
+region-of-requires-2 : tie.Need-region_of-b-requires
 region-of-requires-2 c κs = search rules
 
-point-of-requires : tie.Need-point-of-requires
+point-of-requires : tie.Need-point_of-requires
 point-of-requires c κs = search rules
 
-spot-of-requires : tie.Need-spot-of-requires
+spot-of-requires : tie.Need-spot_of-spot-requires
 spot-of-requires c κs = search rules
 
-operator-of-requires : tie.Need-operator-of-requires
+operator-of-requires : tie.Need-operator_of-operator-requires
 operator-of-requires c κs = search rules
 
-is-set-requires : tie.Need-is-set-requires
+is-set-requires : tie.Need-is_set-requires
 is-set-requires c κs = search rules
 
 returns : tie.Need-returns
-returns c = rw (c.is_set.ensures, c.before.before.before.before.before.region-of.ensures, c.before.before.before.before.region-of2.ensures, c.before.before.spot_of_lem.ensures, c.before.before.before.point-of.ensures, c.before.operator-of.ensures) refl
+returns c = rw (c.is_set.ensures, c.region_of-a.ensures, c.region_of-b.ensures, c.spot_of-spot.ensures, c.point_of.ensures, c.operator_of-operator.ensures) refl
 
-pub course-of-spec : {M : Type 1} → statement M
-course-of-spec =
+pub course_of_spec : {M : Type 1} → statement M
+course_of_spec =
     tie.close
     (tie.spec
     region-of-requires

@@ -8,7 +8,7 @@ flag-requires : tie.Need-flag-requires
 flag-requires c κs = search rules
 
 returns : tie.Need-returns
-returns c = (refl, refl, rw c.flag.ensures (bit-set c.before.args.all), refl, refl)
+returns c = (refl, refl, rw c.flag.ensures (bit-set c.args.all), refl, refl)
 
-pub part-spec : {M : Type 1} → statement M
-part-spec = tie.close (tie.spec flag-requires returns)
+pub part_spec : {M : Type 1} → statement M
+part_spec = tie.close (tie.spec flag-requires returns)

@@ -4,22 +4,22 @@ use borrow.Author.Rules.{rules}
 use Rattle.library_numbers.proofs.forth.spotted.Statement.{statement}
 use Rattle.library_numbers.proofs.forth.spotted.Tie as tie
 
-enum-known-p : tie.Need-enum-known-p
+enum-known-p : tie.Need-enum_known-p
 enum-known-p c = search rules
 
-four-of-requires : tie.Need-four-of-requires
+four-of-requires : tie.Need-four_of-requires
 four-of-requires c κs = search rules
 
-enum_told : tie.Need-enum-told
+enum_told : tie.Need-enum_told-1
 enum_told c = search rules
 
-returns : tie.Need-returns
+returns : tie.Need-returns-in-At
 unfolding spot_of
-returns c = rw (c.four-of.ensures, c.before.before.p.given.1) refl
+returns c = rw (c.four_of.ensures, c.in-At.is) refl
 
-returns-2 : tie.Need-returns-2
+returns-2 : tie.Need-returns-in-Ended
 unfolding spot_of
-returns-2 c = rw c.enum_told.given.1 refl
+returns-2 c = rw c.in-Ended.is refl
 
-pub spotted-spec : {M : Type 1} → statement M
-spotted-spec = tie.close (tie.spec enum-known-p four-of-requires enum_told returns returns-2)
+pub spotted_spec : {M : Type 1} → statement M
+spotted_spec = tie.close (tie.spec enum-known-p four-of-requires enum_told returns returns-2)

@@ -19,32 +19,32 @@ nil_is : (l : List ℕ) → is_nil l ≡ true → l ≡ []
 nil_is [] e = refl
 nil_is (x ∷ l) e = absurd (false≢true e)
 
-enum-known-p : tie.Need-enum-known-p
+enum-known-p : tie.Need-enum_known-p
 enum-known-p c = search rules
 
-is-least-requires : tie.Need-is-least-requires
+is-least-requires : tie.Need-is_least-requires
 is-least-requires c κs = search rules
 
-has-solution-requires : tie.Need-has-solution-requires
+has-solution-requires : tie.Need-has_solution-requires
 has-solution-requires c κs = search rules
 
-returns : tie.Need-returns
+returns : tie.Need-returns-then-is_least
 unfolding full
 returns c = record {
   none = λ e.
-      let k = c.before.before.before.before in
-      let j = k.before.before.args.c.job in
-      let nil : is_nil (full j) ≡ true = not_is (is_nil (full j)) (sym (ap not c.has-solution.ensures) ∙ e) in
-      ap (left_at (listed_at j) (top span)) (ap spot_of k.p.given.1 ∙ ap at (least-rank k.p.given.0.0 (sym c.before.before.is-least.ensures ∙ c.before.if1.true))) ∙ nil_is (full j) nil;
+      let k = c in
+      let j = c.args.c.job in
+      let nil : is_nil (full j) ≡ true = not_is (is_nil (full j)) (sym (ap not c.has_solution.ensures) ∙ e) in
+      ap (left_at (listed_at j) (top span)) (ap spot_of c.in-At.is ∙ ap at (least-rank c.in-At.v (sym c.is_least.ensures ∙ c.if-is_least.true))) ∙ nil_is (full j) nil;
 }
 
-enum_told : tie.Need-enum-told
+enum_told : tie.Need-enum_told-1
 enum_told c = search rules
 
-returns-2 : tie.Need-returns-2
+returns-2 : tie.Need-returns-else-is_least
 returns-2 c = record { none = λ e. absurd (false≢true e) }
 
-returns-3 : tie.Need-returns-3
+returns-3 : tie.Need-returns-in-Ended
 returns-3 c = record { none = λ e. absurd (false≢true e) }
 
 pub is_empty_spec : {M : Type 1} → statement M

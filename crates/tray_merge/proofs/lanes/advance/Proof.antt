@@ -21,7 +21,7 @@ decreases-loop queue at₀ end size v mask₀ bit₀ spot₀ j₀ at mask bit sp
 -- behind lane number j
 module _ (c : tie.After-pass-p invariant-loop decreases-loop) where
   abbrev in-loop : tie.In-loop-j invariant-loop decreases-loop
-  in-loop = c.before.before.before
+  in-loop = c.before.before.before.before.before
 
   abbrev loop-of : tie.At-loop-j invariant-loop decreases-loop
   loop-of = in-loop.before
@@ -30,7 +30,7 @@ module _ (c : tie.After-pass-p invariant-loop decreases-loop) where
   start = loop-of.before
 
   few : loop-of.loop-j.j < 8
-  few = let p = start.requires in let h = in-loop.loop-j-test.taken in omega arith
+  few = let p = start.requires in let h = in-loop.loop-j-test.true in omega arith
 
   behind :
       Passed start.args.queue.now start.args.at.now start.args.end.now (rank_of start.args.v) (loop-of.loop-j.j + 1) (set loop-of.loop-j.at loop-of.loop-j.j c.pass-p.result.at)

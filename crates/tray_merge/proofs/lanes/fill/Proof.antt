@@ -42,7 +42,7 @@ module _ (h : tie.After-walk_on) where
   old = take (end - place) (drop place queue)
 
   abbrev new : List ℤ
-  new = h.walk_on.last.1.1.0
+  new = h.walk_on.new.from.1.0
 
   abbrev front : List ℤ
   front = take place queue
@@ -102,7 +102,7 @@ returns : tie.Need-returns
 returns c =
     let h = c.before in
     let s = start c.before in
-    let p = s.pre in (
+    let p = s.requires in (
       filled_content (job c.before) (from c.before) (count_of c.before) (place c.before) (old c.before) (new c.before) (front c.before) (behind c.before) c.walk_on.result.count (spot_of c.walk_on.result.spot) (gave c.before) (front_long c.before) s.args.j refl,
       filled_few (job c.before) (from c.before) (count_of c.before) (place c.before) (old c.before) (new c.before) (front c.before) (behind c.before) c.walk_on.result.count (spot_of c.walk_on.result.spot) (gave c.before) (front_long c.before) p.2,
       filled_none (job c.before) (from c.before) (count_of c.before) (place c.before) (old c.before) (new c.before) (front c.before) (behind c.before) c.walk_on.result.count (spot_of c.walk_on.result.spot) (gave c.before) (front_long c.before) p.1,

@@ -37,7 +37,7 @@ returns : tie.Need-returns-then-not-is_at
 returns c =
     let a = c.before in
     let s = a in
-    let e = sym (tested c.before) ∙ not-true _ c.if-not-is_at.true in
+    let e = sym (tested c.before) ∙ c.if-not-is_at.true in
     (sym (ap (λ (b : Bool). cond b 1 0) e), sym (add-zero c.args.i), c.requires.1, c.front-f.ensures)
 
 add-n : tie.Need-overflow_add-n
@@ -51,7 +51,7 @@ returns-2 c =
     let d = c in
     let a = d.before in
     let s = a in
-    let e = sym (tested c.before.before) ∙ not-false _ c.if-not-is_at.false in
+    let e = sym (tested c.before.before) ∙ c.if-not-is_at.false in
     let l = queued c.args.queue.now c.args.j c.args.i c.args.e (rank_of c.args.v) e in
     (sym (ap (λ (b : Bool). cond b 1 0) e), refl, omega arith, c.front.ensures)
 

@@ -17,7 +17,7 @@ abbrev decreases-loop : tie.decreases-loop-j
 decreases-loop size marks spot₀ j₀ spot j = size - j
 
 loop-holds : tie.Need-loop-j-init invariant-loop decreases-loop
-loop-holds c = (omega arith, nearest_none (mark_at c.args.t1))
+loop-holds c = (omega arith, nearest_none (mark_at c.args.marks))
 
 mul-m : tie.Need-offset_bounds-marks-j invariant-loop decreases-loop
 mul-m c = search rules
@@ -39,7 +39,7 @@ loop-again c =
     let a = c in
     let s = a in
     let j = c.loop-j.j in
-    let f = mark_at c.args.t1 in
+    let f = mark_at c.args.marks in
     (omega arith, c.nearer-spot.ensures ∙ ap (λ w. nearer w (f j)) c.loop-j.invariant.1 ∙ nearest_more j f ∙ ap (λ n. nearest_of n f) (sym (add-one j)))
 
 returns : tie.Need-returns invariant-loop decreases-loop
@@ -47,7 +47,7 @@ returns c =
     let a = c in
     let s = a in
     let e : c.loop-j.j ≡ c.args.size = omega arith in
-    c.loop-j.invariant.1 ∙ ap (λ n. nearest_of n (mark_at c.args.t1)) e
+    c.loop-j.invariant.1 ∙ ap (λ n. nearest_of n (mark_at c.args.marks)) e
 
 pub reach_spec : {M : Type 1} → statement M
 reach_spec =

@@ -99,7 +99,7 @@ loop-again c =
     let s = a in
     let p = c.requires in
     let h = c.loop-j-test.true in
-    let J : ℕ → Job = λ i. (source_at c.args.t1 i).job in
+    let J : ℕ → Job = λ i. (source_at c.args.sources i).job in
     ⊎_elim
     (λ w.
     let q = w.5.last.1.1.1.1.0 in
@@ -115,7 +115,7 @@ loop-again c =
       rw (w.1, w.2, w.3, w.4)
           (filling_kept J c.args.size c.args.queue.now c.args.at.now c.args.end.now c.args.marks (spot_of c.args.front) c.loop-j.j c.loop-j.queue c.loop-j.at c.loop-j.end c.loop-j.after c.loop-j.invariant.1 (c.is_due.ensures.1 w.0.left)),
     ))
-    c.if-is_due.branch
+    c.if-is_due.branch-raw
 
 same_length : tie.Need-shape_of-queue invariant-loop decreases-loop
 same_length c = search rules
@@ -125,7 +125,7 @@ returns c =
     let a = c in
     let s = a in
     let e : c.loop-j.j ≡ c.args.size = omega arith in
-    filling_all _ _ _ _ _ _ _ _ _ _ _ (subst (λ (n : ℕ). Filling (λ i. (source_at c.args.t1 i).job) c.args.size c.args.queue.now c.args.at.now c.args.end.now c.args.marks (spot_of c.args.front) n c.loop-j.queue c.loop-j.at c.loop-j.end c.loop-j.after) e c.loop-j.invariant.1)
+    filling_all _ _ _ _ _ _ _ _ _ _ _ (subst (λ (n : ℕ). Filling (λ i. (source_at c.args.sources i).job) c.args.size c.args.queue.now c.args.at.now c.args.end.now c.args.marks (spot_of c.args.front) n c.loop-j.queue c.loop-j.at c.loop-j.end c.loop-j.after) e c.loop-j.invariant.1)
 
 pub refill_spec : {M : Type 1} → statement M
 refill_spec =
