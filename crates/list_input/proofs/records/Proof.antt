@@ -17,152 +17,152 @@ use Rattle.list_input.specs.lemmas.Reading.{records-end, records-stop, records-t
 use Rattle.list_input.proofs.records.Statement.{statement}
 use Rattle.list_input.proofs.records.Tie as tie
 
-abbrev invariant-loop : tie.invariant-loop
+abbrev invariant-loop : tie.invariant-loop-at
 invariant-loop bytes s₀ at₀ s at =
     (at ≤ length bytes)
     × ((most : ℕ) × (length bytes - at ≤ most) × (Load.records most (meaning s) at (drop at bytes) ≡ Load.records (length bytes) (meaning fresh) 0 bytes))
 
-abbrev decreases-loop : tie.decreases-loop
+abbrev decreases-loop : tie.decreases-loop-at
 decreases-loop bytes s₀ at₀ s at = length bytes - at
 
 -- what the reading at a turn of the loop gave
-module _ (c : tie.After-read invariant-loop decreases-loop) where
-  abbrev here : tie.At-loop invariant-loop decreases-loop
+module _ (c : tie.After-read-o invariant-loop decreases-loop) where
+  abbrev here : tie.At-loop-at invariant-loop decreases-loop
   here = c.before.before.before
 
   abbrev bytes : List ℕ
-  bytes = here.before.before.before.args.bytes.now
+  bytes = here.args.bytes.now
 
   abbrev at : ℕ
-  at = here.loop.at
+  at = here.loop-at.at
 
   all : take (length bytes - at) (drop at bytes) ≡ drop at bytes
   all = take_all (length bytes - at) (drop at bytes) (le_of_eq (length-drop at bytes))
 
-  stepped : outcome [] c.read.result.session c.read.result.answer ≡ step world (reading (drop at bytes)) (meaning here.loop.s)
-  stepped = c.read.ensures.0.met ∙ ap (λ (b : List ℕ). step world (reading b) (meaning here.loop.s)) all
+  stepped : outcome [] c.read-o.result.session c.read-o.result.answer ≡ step world (reading (drop at bytes)) (meaning here.loop-at.s)
+  stepped = c.read-o.ensures.0.met ∙ ap (λ (b : List ℕ). step world (reading b) (meaning here.loop-at.s)) all
 
   -- the same with the answer that the match found
-  found : (a : Answer) → c.read.result.answer ≡ a → outcome [] c.read.result.session a ≡ step world (reading (drop at bytes)) (meaning here.loop.s)
-  found a e = ap (outcome [] c.read.result.session) (sym e) ∙ stepped
+  found : (a : Answer) → c.read-o.result.answer ≡ a → outcome [] c.read-o.result.session a ≡ step world (reading (drop at bytes)) (meaning here.loop-at.s)
+  found a e = ap (outcome [] c.read-o.result.session) (sym e) ∙ stepped
 
   -- a reading after which there is none ends it all
-  stop : (a : Answer) → c.read.result.answer ≡ a → (z : Load.Loaded) → ((next : ℕ → Model.Session world → Load.Loaded) → Load.onward next (meaning here.loop.s) at (outcome [] c.read.result.session a) ≡ z)
+  stop : (a : Answer) → c.read-o.result.answer ≡ a → (z : Load.Loaded) → ((next : ℕ → Model.Session world → Load.Loaded) → Load.onward next (meaning here.loop-at.s) at (outcome [] c.read-o.result.session a) ≡ z)
       → z ≡ Load.records (length bytes) (meaning fresh) 0 bytes
   stop a e z f =
-      let i = here.loop.inv.1 in
-      sym (records-stop (meaning here.loop.s) at bytes c.before.before.loop-test.true i.0 i.1 (outcome [] c.read.result.session a) (found a e) z f) ∙ i.2
+      let i = here.loop-at.invariant.1 in
+      sym (records-stop (meaning here.loop-at.s) at bytes c.loop-at-test.true i.0 i.1 (outcome [] c.read-o.result.session a) (found a e) z f) ∙ i.2
 
 -- the bytes that an accepted record took
-module _ (c : tie.After-known-told invariant-loop decreases-loop) where
-  abbrev given : tie.After-read invariant-loop decreases-loop
-  given = c.before.before.before
+module _ (c : tie.In-Taken invariant-loop decreases-loop) where
+  abbrev given : tie.After-read-o invariant-loop decreases-loop
+  given = c.before
 
   abbrev took : ℕ
-  took = c.before.a.given.0.0
+  took = c.in-Taken.n
 
   within : (1 ≤ took) × (took ≤ length (bytes given) - at given)
   within =
-      let t = step-takes took (meaning given.read.result.session) (drop (at given) (bytes given)) (meaning (here given).loop.s) (sym (found given _ c.before.a.given.1)) in
+      let t = step-takes took (meaning given.read-o.result.session) (drop (at given) (bytes given)) (meaning (here given).loop-at.s) (sym (found given _ c.in-Taken.is)) in
       (t.0, rw length-drop at t.1)
 
-start-requires : tie.Need-start-requires invariant-loop decreases-loop
+start-requires : tie.Need-start-s-requires invariant-loop decreases-loop
 start-requires c κs = search rules
 
-loop-holds : tie.Need-loop-init invariant-loop decreases-loop
+loop-holds : tie.Need-loop-at-init invariant-loop decreases-loop
 loop-holds c =
-    let b = c.before.before.args.bytes.now in
-    (omega arith, (length b, omega arith, ap (λ s. Load.records (length b) (meaning s) 0 b) c.start.ensures))
+    let b = c.args.bytes.now in
+    (omega arith, (length b, omega arith, ap (λ s. Load.records (length b) (meaning s) 0 b) c.start-s.ensures))
 
-sub_read : tie.Need-overflow-sub-read invariant-loop decreases-loop
+sub_read : tie.Need-slice_bounds-read-count invariant-loop decreases-loop
 sub_read c = search rules
 
-part-read-start : tie.Need-slice-bounds-read-start invariant-loop decreases-loop
+part-read-start : tie.Need-slice_bounds-read-start invariant-loop decreases-loop
 part-read-start c = search rules
 
-part-read-end : tie.Need-slice-bounds-read-end invariant-loop decreases-loop
+part-read-end : tie.Need-slice_bounds-read-end invariant-loop decreases-loop
 part-read-end c = search rules
 
-read-requires : tie.Need-read-requires invariant-loop decreases-loop
+read-requires : tie.Need-read-o-requires invariant-loop decreases-loop
 read-requires c κs = search rules
 
-enum-known-a : tie.Need-enum-known-a invariant-loop decreases-loop
+enum-known-a : tie.Need-enum_known-a invariant-loop decreases-loop
 enum-known-a c = search rules
 
-add_at : tie.Need-overflow-add-at invariant-loop decreases-loop
+add_at : tie.Need-overflow_add-at invariant-loop decreases-loop
 add_at c =
     let w = within c in
-    let h = (here (given c)).loop.inv.0 in
+    let h = (here (given c)).loop-at.invariant.0 in
     record { fits = omega arith }
 
-enum-known-a-2 : tie.Need-enum-known-a-2 invariant-loop decreases-loop
+enum-known-a-2 : tie.Need-enum_known-a-in-Refused-1 invariant-loop decreases-loop
 enum-known-a-2 c = search rules
 
-returns : tie.Need-returns invariant-loop decreases-loop
-returns c = let r = c.before.before.before in stop r _ c.before.a2.given.1 _ (λ f. refl)
+returns : tie.Need-returns-in-Refused invariant-loop decreases-loop
+returns c = let r = c.before.before.before in stop c.before _ c.in-Refused.is _ (λ f. refl)
 
-enum_told : tie.Need-enum-told invariant-loop decreases-loop
+enum_told : tie.Need-enum_told-1 invariant-loop decreases-loop
 enum_told c = search rules
 
 finished-requires : tie.Need-finished-requires invariant-loop decreases-loop
 finished-requires c κs = search rules
 
-returns-2 : tie.Need-returns-2 invariant-loop decreases-loop
-returns-2 c = let r = c.before.before.before in c.finished.ensures ∙ stop r _ c.before.enum_told.given.1 _ (λ f. refl)
+returns-2 : tie.Need-returns-in-Handed invariant-loop decreases-loop
+returns-2 c = let r = c.before.before.before in c.finished.ensures ∙ stop c.before.before _ c.in-Handed.is _ (λ f. refl)
 
-enum-told-2 : tie.Need-enum-told-2 invariant-loop decreases-loop
+enum-told-2 : tie.Need-enum_told-in-Done invariant-loop decreases-loop
 enum-told-2 c = search rules
 
-finished-requires-2 : tie.Need-finished-requires-2 invariant-loop decreases-loop
+finished-requires-2 : tie.Need-finished-requires-in-Done invariant-loop decreases-loop
 finished-requires-2 c κs = search rules
 
-returns-3 : tie.Need-returns-3 invariant-loop decreases-loop
-returns-3 c = let r = c.before.before.before in c.finished2.ensures ∙ stop r _ c.before.enum-told2.given.1 _ (λ f. refl)
+returns-3 : tie.Need-returns-in-Done invariant-loop decreases-loop
+returns-3 c = let r = c.before.before.before in c.finished-in-Done.ensures ∙ stop c.before.before _ c.in-Done.is _ (λ f. refl)
 
-enum-told-3 : tie.Need-enum-told-3 invariant-loop decreases-loop
+enum-told-3 : tie.Need-enum_told-in-Says invariant-loop decreases-loop
 enum-told-3 c = search rules
 
-finished-requires-3 : tie.Need-finished-requires-3 invariant-loop decreases-loop
+finished-requires-3 : tie.Need-finished-requires-in-Says invariant-loop decreases-loop
 finished-requires-3 c κs = search rules
 
-returns-4 : tie.Need-returns-4 invariant-loop decreases-loop
-returns-4 c = let r = c.before.before.before in c.finished3.ensures ∙ stop r _ c.before.enum-told3.given.1 _ (λ f. refl)
+returns-4 : tie.Need-returns-in-Says invariant-loop decreases-loop
+returns-4 c = let r = c.before.before.before in c.finished-in-Says.ensures ∙ stop c.before.before _ c.in-Says.is _ (λ f. refl)
 
-enum-told-4 : tie.Need-enum-told-4 invariant-loop decreases-loop
+enum-told-4 : tie.Need-enum_told-in-Least invariant-loop decreases-loop
 enum-told-4 c = search rules
 
-finished-requires-4 : tie.Need-finished-requires-4 invariant-loop decreases-loop
+finished-requires-4 : tie.Need-finished-requires-in-Least invariant-loop decreases-loop
 finished-requires-4 c κs = search rules
 
-returns-5 : tie.Need-returns-5 invariant-loop decreases-loop
-returns-5 c = let r = c.before.before.before in c.finished4.ensures ∙ stop r _ c.before.enum-told4.given.1 _ (λ f. refl)
+returns-5 : tie.Need-returns-in-Least invariant-loop decreases-loop
+returns-5 c = let r = c.before.before.before in c.finished-in-Least.ensures ∙ stop c.before.before _ c.in-Least.is _ (λ f. refl)
 
-loop-less : tie.Need-loop-smaller invariant-loop decreases-loop
+loop-less : tie.Need-loop-at-smaller invariant-loop decreases-loop
 loop-less c = let w = within c.before in omega arith
 
-loop-again : tie.Need-loop-preserved invariant-loop decreases-loop
+loop-again : tie.Need-loop-at-preserved invariant-loop decreases-loop
 loop-again c =
     let k = c.before in
-    let r = given k in
-    let i = (here r).loop.inv.1 in
-    let w = within k in
-    let h = (here r).loop.inv.0 in
-    let n = records-take (meaning (here r).loop.s) (at r) (bytes r) r.before.before.loop-test.taken i.0 i.1 (took k) (meaning r.read.result.session) (found r _ k.before.a.given.1) in
+    let r = given c.before in
+    let i = (here r).loop-at.invariant.1 in
+    let w = within c.before in
+    let h = (here r).loop-at.invariant.0 in
+    let n = records-take (meaning (here r).loop-at.s) (at r) (bytes r) r.before.before.loop-at-test.true i.0 i.1 (took c.before) (meaning r.read-o.result.session) (found r _ c.in-Taken.is) in
     (omega arith, (n.0, n.1, n.2 ∙ i.2))
 
-finished-requires-5 : tie.Need-finished-requires-5 invariant-loop decreases-loop
+finished-requires-5 : tie.Need-finished-requires-2 invariant-loop decreases-loop
 finished-requires-5 c κs = search rules
 
-returns-6 : tie.Need-returns-6 invariant-loop decreases-loop
+returns-6 : tie.Need-returns invariant-loop decreases-loop
 returns-6 c =
-    let l = c.before.before in
-    let i = l.loop.invariant.1 in
-    c.finished5.ensures
-    ∙ sym (records-end i.0 (meaning l.loop.s) l.loop.at l.before.before.before.args.bytes.now c.before.loop-test.false)
+    let l = c in
+    let i = c.loop-at.invariant.1 in
+    c.finished-2.ensures
+    ∙ sym (records-end i.0 (meaning c.loop-at.s) c.loop-at.at c.args.bytes.now c.loop-at-test.false)
     ∙ i.2
 
-pub records-spec : {M : Type 1} → statement M
-records-spec =
+pub records_spec : {M : Type 1} → statement M
+records_spec =
     tie.close
     (tie.spec
     invariant-loop

@@ -7,27 +7,27 @@ use borrow.Author.Rules.{rules}
 use Rattle.list_states.proofs.start.Statement.{statement}
 use Rattle.list_states.proofs.start.Tie as tie
 
-load-requires : tie.Need-load-requires
+load-requires : tie.Need-load-input-requires
 load-requires c κs = search rules
 
-enum_told : tie.Need-enum-told
+enum_told : tie.Need-enum_told-1
 enum_told c = search rules
 
-enum-known-input : tie.Need-enum-known-input
+enum-known-input : tie.Need-enum_known-input
 enum-known-input c = search rules
 
-enum-known-input-2 : tie.Need-enum-known-input-2
+enum-known-input-2 : tie.Need-enum_known-input-in-Job-1
 enum-known-input-2 c = search rules
 
-returns : tie.Need-returns
-returns c = ap begin (ap loaded_of (sym c.enum_told.given.1) ∙ c.before.before.load.ensures)
+returns : tie.Need-returns-in-TooLong
+returns c = ap begin (ap loaded_of (sym c.in-TooLong.is) ∙ c.load-input.ensures)
 
-returns-2 : tie.Need-returns-2
-returns-2 c = ap begin (ap loaded_of (sym c.before.input.given.1) ∙ c.before.before.before.load.ensures)
+returns-2 : tie.Need-returns-in-Refused
+returns-2 c = ap begin (ap loaded_of (sym c.in-Refused.is) ∙ c.load-input.ensures)
 
-returns-3 : tie.Need-returns-3
+returns-3 : tie.Need-returns-in-Job
 unfolding size_of
-returns-3 c = ap begin (ap loaded_of (sym c.before.input2.given.1) ∙ c.before.before.before.load.ensures)
+returns-3 c = ap begin (ap loaded_of (sym c.in-Job.is) ∙ c.load-input.ensures)
 
 pub start_spec : {M : Type 1} → statement M
 start_spec =

@@ -4,7 +4,7 @@ use borrow.Author.Rules.{rules}
 use Rattle.session_tallied.proofs.rewind.Statement.{statement}
 use Rattle.session_tallied.proofs.rewind.Tie as tie
 
-rewind-requires : tie.Need-rewind-requires
+rewind-requires : tie.Need-rewind-o-requires
 rewind-requires c κs = search rules
 
 restarted-requires : tie.Need-restarted-requires
@@ -14,7 +14,7 @@ kept-requires : tie.Need-kept-requires
 kept-requires c κs = search rules
 
 returns : tie.Need-returns
-returns c = let k = c.kept.ensures in record { met = rw (k.0, k.2) c.before.before.rewind.ensures.0; tally = rw k.2 (k.1 ∙ c.before.restarted.ensures) }
+returns c = let k = c.kept.ensures in record { met = rw (k.0, k.2) c.rewind-o.ensures.0; tally = rw k.2 (k.1 ∙ c.restarted.ensures) }
 
-pub rewind-spec : {M : Type 1} → statement M
-rewind-spec = tie.close (tie.spec rewind-requires restarted-requires kept-requires returns)
+pub rewind_spec : {M : Type 1} → statement M
+rewind_spec = tie.close (tie.spec rewind-requires restarted-requires kept-requires returns)

@@ -5,35 +5,35 @@ use Rattle.tray.specs.declared.Stage.TheVariants as S
 use Rattle.tray.proofs.from_spot.Statement.{statement}
 use Rattle.tray.proofs.from_spot.Tie as tie
 
-enum_told : tie.Need-enum-told
+enum_told : tie.Need-enum_told-1
 enum_told c = search rules
 
 handed-requires : tie.Need-handed-requires
 handed-requires c κs = search rules
 
-enum-told-2 : tie.Need-enum-told-2
+enum-told-2 : tie.Need-enum_told-in-Ended
 enum-told-2 c = search rules
 
 refused-requires : tie.Need-refused-requires
 refused-requires c κs = search rules
 
-same_length : tie.Need-same-length
+same_length : tie.Need-shape_of-out
 same_length c = search rules
 
-returns : tie.Need-returns
+returns : tie.Need-returns-in-At
 returns c =
-    let h = c.before in
-    let e = h.before.before in
-    let s = e.before.before.before in
-    rw (s.requires, spot-hands s.args.s.tray s.args.p _ s.args.out.now e.enum_told.given.1) h.handed.ensures
+    let h = c in
+    let e = h in
+    let s = e in
+    rw (c.requires, spot-hands c.args.s.tray c.args.p _ c.args.out.now c.in-At.is) c.handed.ensures
 
-returns-2 : tie.Need-returns-2
+returns-2 : tie.Need-returns-in-Ended
 returns-2 c =
-    let e = c.before in
-    let s = e.before.before.before in
-    rw (c.refused.ensures.0, c.refused.ensures.1) (end-hands s.args.s s.args.out.now (s.requires ∙ ap S.Walking e.enum-told2.given.1))
+    let e = c in
+    let s = e in
+    rw (c.refused.ensures.0, c.refused.ensures.1) (end-hands c.args.s c.args.out.now (c.requires ∙ ap S.Walking c.in-Ended.is))
 
-pub from-spot-spec : {M : Type 1} → statement M
-from-spot-spec =
+pub from_spot_spec : {M : Type 1} → statement M
+from_spot_spec =
     tie.close
     (tie.spec enum_told handed-requires enum-told-2 refused-requires same_length returns returns-2)

@@ -11,5 +11,5 @@ begun-requires c κs = search rules
 returns : tie.Need-returns
 returns c = ap₂ (λ a m. (answer_of [] a, m)) c.begun.ensures.1 c.begun.ensures.0
 
-pub rewound-spec : {M : Type 1} → statement M
-rewound-spec = tie.close (tie.spec begun-requires returns)
+pub rewound_spec : {M : Type 1} → statement M
+rewound_spec = tie.close (tie.spec begun-requires returns)

@@ -12,7 +12,7 @@ taken-requires : tie.Need-taken-requires
 taken-requires c κs = search rules
 
 returns : tie.Need-returns
-returns c = c.taken.ensures ∙ ap (Model.begun world (meaning c.before.before.before.before.args.s)) c.before.take.ensures
+returns c = c.taken.ensures ∙ ap (Model.begun world (meaning c.args.s)) c.take.ensures
 
 pub take_spec : {M : Type 1} → statement M
 take_spec = tie.close (tie.spec take-requires taken-requires returns)

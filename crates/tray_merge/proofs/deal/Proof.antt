@@ -92,13 +92,13 @@ module _ (r : tie.After-refill-near invariant-loop decreases-loop) where
   sized = floored.regions-size.ensures
 
   abbrev first-queue : List ℤ
-  first-queue = r.refill-near.new.marks.marks.marks.1.1.0
+  first-queue = r.refill-near.new.marks.marks.marks.marks.marks.0
 
   abbrev first-at : List ℕ
-  first-at = r.refill-near.new.marks.marks.marks.1.1.1.0
+  first-at = r.refill-near.new.marks.marks.marks.marks.marks.marks.0
 
   abbrev first-end : List ℕ
-  first-end = r.refill-near.new.marks.marks.marks.1.1.1.1.0
+  first-end = r.refill-near.new.marks.marks.marks.marks.marks.marks.1.0
 
   abbrev none : List ℕ
   none = replicate 8 0
@@ -133,13 +133,13 @@ module _ (x : tie.After-refill-after invariant-loop decreases-loop) where
   root = fill-of front_of
 
   abbrev second-queue : List ℤ
-  second-queue = x.refill-after.new.marks.marks.marks.1.1.0
+  second-queue = x.refill-after.new.marks.marks.marks.marks.marks.0
 
   abbrev second_at : List ℕ
-  second_at = x.refill-after.new.marks.marks.marks.1.1.1.0
+  second_at = x.refill-after.new.marks.marks.marks.marks.marks.marks.0
 
   abbrev second-end : List ℕ
-  second-end = x.refill-after.new.marks.marks.marks.1.1.1.1.0
+  second-end = x.refill-after.new.marks.marks.marks.marks.marks.marks.1.0
 
   second-long : length second-queue ≡ 16384
   second-long =
@@ -408,13 +408,13 @@ module _ (r : tie.After-refill-marks invariant-loop decreases-loop) where
   out_of = r.before.before.before.before.before.before
 
   abbrev again-queue : List ℤ
-  again-queue = r.refill-marks.new.marks.marks.marks.1.1.0
+  again-queue = r.refill-marks.new.marks.marks.marks.marks.marks.0
 
   abbrev again-at : List ℕ
-  again-at = r.refill-marks.new.marks.marks.marks.1.1.1.0
+  again-at = r.refill-marks.new.marks.marks.marks.marks.marks.marks.0
 
   abbrev again-end : List ℕ
-  again-end = r.refill-marks.new.marks.marks.marks.1.1.1.1.0
+  again-end = r.refill-marks.new.marks.marks.marks.marks.marks.marks.1.0
 
   again-long : length again-queue ≡ 16384
   again-long =

@@ -9,7 +9,7 @@ flag-requires : tie.Need-flag-requires
 flag-requires c κs = search rules
 
 returns : tie.Need-returns
-returns c = (refl, rw c.flag.ensures (bit-set c.before.args.end), refl)
+returns c = (refl, rw c.flag.ensures (bit-set c.args.end), refl)
 
 pub counted_spec : {M : Type 1} → statement M
 counted_spec = tie.close (tie.spec flag-requires returns)

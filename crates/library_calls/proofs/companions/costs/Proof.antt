@@ -10,5 +10,5 @@ flag-requires c κs = search rules
 returns : tie.Need-returns
 returns c = rw c.flag.ensures refl
 
-pub costs-spec : {M : Type 1} → statement M
-costs-spec = tie.close (tie.spec flag-requires returns)
+pub costs_spec : {M : Type 1} → statement M
+costs_spec = tie.close (tie.spec flag-requires returns)

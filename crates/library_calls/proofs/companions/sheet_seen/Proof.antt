@@ -4,14 +4,14 @@ use mathlib.Core.Path.{refl}
 use Rattle.library_calls.proofs.companions.sheet_seen.Statement.{statement}
 use Rattle.library_calls.proofs.companions.sheet_seen.Tie as tie
 
-four-of-requires : tie.Need-four-of-requires
+four-of-requires : tie.Need-four_of-requires
 four-of-requires c κs = search rules
 
-four-of-requires-2 : tie.Need-four-of-requires-2
+four-of-requires-2 : tie.Need-four_of-requires-2
 four-of-requires-2 c κs = search rules
 
 returns : tie.Need-returns
-returns c = rw (c.before.four-of.ensures, c.four-of2.ensures) refl
+returns c = rw (c.four_of.ensures, c.four_of-2.ensures) refl
 
-pub sheet-seen-spec : {M : Type 1} → statement M
-sheet-seen-spec = tie.close (tie.spec four-of-requires four-of-requires-2 returns)
+pub sheet_seen_spec : {M : Type 1} → statement M
+sheet_seen_spec = tie.close (tie.spec four-of-requires four-of-requires-2 returns)

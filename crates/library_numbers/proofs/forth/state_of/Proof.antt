@@ -20,10 +20,10 @@ walking-requires : tie.Need-walking-requires
 walking-requires c κs = search rules
 
 returns : tie.Need-returns-in-Early
-returns c = let e = c.early.ensures in bench_is c.early.result (e.0 ∙ sym c.in-Early.is) (e.1 ∙ c.Counts-of.ensures)
+returns c = let e = c.early.ensures in bench_is c.early.result (e.0 ∙ sym c.in-Early.is) (e.1 ∙ c.counts_of-counts.ensures)
 
 returns-2 : tie.Need-returns-in-Walking
-returns-2 c = let e = c.walking.ensures in bench_is c.walking.result (e.0 ∙ sym c.in-Walking.is) (e.1 ∙ c.Counts-of.ensures)
+returns-2 c = let e = c.walking.ensures in bench_is c.walking.result (e.0 ∙ sym c.in-Walking.is) (e.1 ∙ c.counts_of-counts.ensures)
 
 pub state_of_spec : {M : Type 1} → statement M
 state_of_spec =

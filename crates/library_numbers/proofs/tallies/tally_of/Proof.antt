@@ -19,7 +19,7 @@ decreases-loop from counts₀ e₀ counts e = 21 - e
 
 -- an array has its length
 long : (s : tie.Start invariant-loop decreases-loop) → length s.args.c.counts ≡ 21
-long s = sym (length-map s.args.c.counts _) ∙ s.well_formed.0.1.1.0.1.0.1
+long s = s.well_formed.0.1.1.0.1.0.1
 
 loop-holds : tie.Need-loop-e-init invariant-loop decreases-loop
 loop-holds c = (omega arith, refl, refl)

@@ -12,9 +12,9 @@ use Rattle.list_pages.proofs.page.next.Statement.{statement}
 use Rattle.list_pages.proofs.page.next.Tie as tie
 
 -- the numbers lent are room for as many points
-module _ (c : tie.After-point-buffer) where
+module _ (c : tie.After-point_buffer-points) where
   abbrev room : ℕ
-  room = c.before.least.result
+  room = c.least-room.result
 
   abbrev start : tie.Start
   start = c.before.before.before
@@ -22,50 +22,50 @@ module _ (c : tie.After-point-buffer) where
   bounds : (room ≤ 2048) × (room ≤ length start.args.out.now / 70)
   bounds =
       let n = length start.args.out.now / 70 in
-      let e : room ≡ min 2048 n = c.before.least.ensures in
+      let e : room ≡ min 2048 n = c.least-room.ensures in
       let l = min-le_left 2048 n in
       let r = min-le_right 2048 n in
       (omega arith, omega arith)
 
-  lent : length (take (4 * room) c.point-buffer.result) ≡ 4 * room
-  lent = let b = bounds.0 in let e = c.point-buffer.ensures in length-take-le (4 * room) c.point-buffer.result (omega arith)
+  lent : length (take (4 * room) c.point_buffer-points.result) ≡ 4 * room
+  lent = let b = bounds.0 in let e = c.point_buffer-points.ensures in length-take-le (4 * room) c.point_buffer-points.result (omega arith)
 
-  space : length (take (4 * room) c.point-buffer.result) / 4 ≡ room
+  space : length (take (4 * room) c.point_buffer-points.result) / 4 ≡ room
   space = rw lent (omega arith)
 
-least-requires : tie.Need-least-requires
+least-requires : tie.Need-least-room-requires
 least-requires c κs = search rules
 
-point-buffer-requires : tie.Need-point-buffer-requires
+point-buffer-requires : tie.Need-point_buffer-points-requires
 point-buffer-requires c κs = search rules
 
-mul-points : tie.Need-overflow-mul-points
+mul-points : tie.Need-overflow_mul-points
 mul-points c = search rules
 
-array-borrow-prefix-points : tie.Need-array-borrow-prefix-points
+array-borrow-prefix-points : tie.Need-slice_bounds-points-end
 array-borrow-prefix-points c = search rules
 
-slice-aggregate-filled : tie.Need-slice-aggregate-filled
+slice-aggregate-filled : tie.Need-slice_bounds-filled-end
 slice-aggregate-filled c = sym (lent c.before)
 
 filled-requires : tie.Need-filled-requires
 filled-requires c κs =
     let b = c.before.before in
-    let h = (bounds b).1 in
-    rw (space b) (omega arith)
+    let h = (bounds c.before.before).1 in
+    rw (space c.before.before) (omega arith)
 
-same_length : tie.Need-same-length
+same_length : tie.Need-shape_of-out
 same_length c = search rules
 
 returns : tie.Need-returns
 returns c =
-    let f = c.before.before.before in
+    let f = c in
     let b = f.before.before.before in
-    let s = start b in
-    subst (λ (n : ℕ). Paged (page_of n (meaning s.args.s)) f.filled.result s.args.out.now f.filled.new.1.1.0) (space b ∙ b.before.least.ensures) f.filled.ensures
+    let s = start c.before.before.before.before.before.before in
+    subst (λ (n : ℕ). Paged (page_of n (meaning s.args.s)) c.filled.result s.args.out.now c.filled.new.points.1.0) (space c.before.before.before.before.before.before ∙ c.least-room.ensures) c.filled.ensures
 
-pub next-spec : {M : Type 1} → statement M
-next-spec =
+pub next_spec : {M : Type 1} → statement M
+next_spec =
     tie.close
     (tie.spec
     least-requires

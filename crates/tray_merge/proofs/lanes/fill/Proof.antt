@@ -42,7 +42,7 @@ module _ (h : tie.After-walk_on) where
   old = take (end - place) (drop place queue)
 
   abbrev new : List ℤ
-  new = h.walk_on.new.from.1.0
+  new = h.walk_on.new.from.from.0
 
   abbrev front : List ℤ
   front = take place queue

@@ -1,0 +1,10 @@
+use native.Mathlib.Omega.{arith}
+use Rattle.text_puts.specs.Puts.{puts-joined, puts-within}
+use Rattle.job_words.specs.Rows.{job_texts}
+use Rattle.job.proofs.say.Goals as goal
+
+pub print-requires : goal.print-requires
+print-requires g c = puts-within c.output_buffer-out.result (job_texts c.args.bytes.now) c.put-n.new.out c.put-n.result 65536 (let e = c.output_buffer-out.ensures in omega arith) c.put-n.ensures
+
+pub returns : goal.returns
+returns g c = rw (puts-joined c.output_buffer-out.result (job_texts c.args.bytes.now) c.put-n.new.out c.put-n.result 65536 (let e = c.output_buffer-out.ensures in omega arith) c.put-n.ensures) at c.print.ensures
