@@ -32,7 +32,7 @@ module _ (S : Datum) {M : Type 1} {𝓤 : Ura M} {𝓛 : Logic 𝓤} {K : Type 0
       → Seq K 𝓛 (‵ (cell_at q S.row.mir vs b o) ∷ ‵ (S.row.own_val h vs) ∷ Γ) G
   spells t q h vs b o k =
       spelt t S.row (Is S.row) (shows 𝓛 S.row) (λ x. S.val x ∷ []) S.tells q h vs b o $
-      rewrite t 0 (λ (ts : List Ty). ‵ (cell_at q ts (S.val h ∷ []) b o)) S.one_Cell refl $
+      rewrite t 0 (λ (ts : List Ty). ‵ (cell_at q ts (S.val h ∷ []) b o)) S.one_cell refl $
       move t (1 ∷ []) $ peeks t S.row (Is S.row) (shows 𝓛 S.row) h (S.val h ∷ []) (λ is. move t (1 ∷ 0 ∷ []) $ k is)
 
   pub closes-datum : K → Soaks G → {κ : Lft} {q : Share} {γ : GName} {u v : Gv} (h : S.row.Denot) → Is S.row h (S.val h ∷ []) → (b o : ℕ)
@@ -45,7 +45,7 @@ module _ (S : Datum) {M : Type 1} {𝓤 : Ura M} {𝓛 : Logic 𝓤} {K : Type 0
   pub shuts_datum : K → Soaks G → {κ : Lft} {q : Share} (q' : Share) (h : S.row.Denot) (b o : ℕ)
       → Step K 𝓛 (‵ (flft κ q) ∷ Γ) G (‵ (cell S q' h b o) ∷ ‵ (S.row.own_val h (S.val h ∷ [])) ∷ ‵ (fobor κ q (part_at S.row q' h b o)) ∷ Γ) G
   shuts_datum t z q' h b o = step (λ s.
-      rewrite t 0 (λ (ts : List Ty). ‵ (cell_at q' ts (S.val h ∷ []) b o)) (sym S.one_Cell) refl $ shuts t z S.row q' h (S.val h ∷ []) b o $ s)
+      rewrite t 0 (λ (ts : List Ty). ‵ (cell_at q' ts (S.val h ∷ []) b o)) (sym S.one_cell) refl $ shuts t z S.row q' h (S.val h ∷ []) b o $ s)
 
 module _ (S : Datum) {M : Type 1} {𝓤 : Ura M} {𝓛 : Logic 𝓤} {K : Type 0} {Γ : List (Item 𝓤)} {G : Goal 𝓤 𝓛.H} where
   pub opens_datum : K → Soaks G → {κ : Lft} {q : Share} {γ : GName} (h : S.row.Denot) (b o : ℕ)

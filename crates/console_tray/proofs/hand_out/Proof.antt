@@ -8,29 +8,29 @@ use Rattle.console_tray.proofs.hand_out.Tie as tie
 same-requires : tie.Need-same-requires
 same-requires c κs = search rules
 
-returns : tie.Need-returns
+returns : tie.Need-returns-then-space-k
 returns c = search rules
 
-slice-relend-prefix-hand-out : tie.Need-slice-relend-prefix-hand-out
+slice-relend-prefix-hand-out : tie.Need-slice_bounds-hand_out-end
 slice-relend-prefix-hand-out c = search rules
 
-slice-aggregate-hand-out : tie.Need-slice-aggregate-hand-out
+slice-aggregate-hand-out : tie.Need-slice_bounds-hand_out-end-2
 slice-aggregate-hand-out c = sym (length-take-le _ _ (search rules))
 
-hand-out-requires : tie.Need-hand-out-requires
+hand-out-requires : tie.Need-hand_out-requires
 hand-out-requires c κs = search rules
 
 replied-requires : tie.Need-replied-requires
 replied-requires c κs = search rules
 
-same_length : tie.Need-same-length
+same_length : tie.Need-shape_of-space
 same_length c = search rules
 
-returns-2 : tie.Need-returns-2
+returns-2 : tie.Need-returns
 returns-2 c = search rules
 
-pub hand-out-spec : {M : Type 1} → statement M
-hand-out-spec =
+pub hand_out_spec : {M : Type 1} → statement M
+hand_out_spec =
     tie.close
     (tie.spec
     same-requires

@@ -5,7 +5,7 @@ use borrow.Author.Rules.{rules}
 use Rattle.library_trays.proofs.clear.Statement.{statement}
 use Rattle.library_trays.proofs.clear.Tie as tie
 
-session-of-requires : tie.Need-session-of-requires
+session-of-requires : tie.Need-session_of-requires
 session-of-requires c κs = search rules
 
 clear-requires : tie.Need-clear-requires
@@ -15,7 +15,7 @@ leaving-requires : tie.Need-leaving-requires
 leaving-requires c κs = search rules
 
 returns : tie.Need-returns
-returns c = left-steps c.leaving.ensures c.before.before.session-of.ensures [] c.before.clear.ensures
+returns c = left-steps c.leaving.ensures c.session_of.ensures [] c.clear.ensures
 
 pub clear_spec : {M : Type 1} → statement M
 clear_spec = tie.close (tie.spec session-of-requires clear-requires leaving-requires returns)

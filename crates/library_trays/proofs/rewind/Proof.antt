@@ -5,7 +5,7 @@ use borrow.Author.Rules.{rules}
 use Rattle.library_trays.proofs.rewind.Statement.{statement}
 use Rattle.library_trays.proofs.rewind.Tie as tie
 
-session-of-requires : tie.Need-session-of-requires
+session-of-requires : tie.Need-session_of-requires
 session-of-requires c κs = search rules
 
 rewind-requires : tie.Need-rewind-requires
@@ -15,7 +15,7 @@ leaving-requires : tie.Need-leaving-requires
 leaving-requires c κs = search rules
 
 returns : tie.Need-returns
-returns c = left-steps c.leaving.ensures c.before.before.session-of.ensures [] c.before.rewind.ensures
+returns c = left-steps c.leaving.ensures c.session_of.ensures [] c.rewind.ensures
 
-pub rewind-spec : {M : Type 1} → statement M
-rewind-spec = tie.close (tie.spec session-of-requires rewind-requires leaving-requires returns)
+pub rewind_spec : {M : Type 1} → statement M
+rewind_spec = tie.close (tie.spec session-of-requires rewind-requires leaving-requires returns)

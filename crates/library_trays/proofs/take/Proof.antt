@@ -5,7 +5,7 @@ use borrow.Author.Rules.{rules}
 use Rattle.library_trays.proofs.take.Statement.{statement}
 use Rattle.library_trays.proofs.take.Tie as tie
 
-session-of-requires : tie.Need-session-of-requires
+session-of-requires : tie.Need-session_of-requires
 session-of-requires c κs = search rules
 
 take-requires : tie.Need-take-requires
@@ -15,7 +15,7 @@ leaving-requires : tie.Need-leaving-requires
 leaving-requires c κs = search rules
 
 returns : tie.Need-returns
-returns c = left-steps c.leaving.ensures c.before.before.session-of.ensures [] c.before.take.ensures
+returns c = left-steps c.leaving.ensures c.session_of.ensures [] c.take.ensures
 
 pub take_spec : {M : Type 1} → statement M
 take_spec = tie.close (tie.spec session-of-requires take-requires leaving-requires returns)

@@ -3,32 +3,32 @@ use borrow.Author.Rules.{rules}
 use Rattle.show.proofs.answer.Statement.{statement}
 use Rattle.show.proofs.answer.Tie as tie
 
-read-requires : tie.Need-read-requires
+read-requires : tie.Need-read-got-requires
 read-requires c κs = search rules
 
-same_length : tie.Need-same-length
+same_length : tie.Need-shape_of-input-then-got
 same_length c = search rules
 
-returns : tie.Need-returns
-returns c = let k = c.before.before.before in answered-failed k.read.result k.read.ensures c.if1.true
+returns : tie.Need-returns-then-got
+returns c = let k = c in answered-failed c.read-got.result c.read-got.ensures c.if-got.true
 
-slice-reshare-prefix-say : tie.Need-slice-reshare-prefix-say
+slice-reshare-prefix-say : tie.Need-slice_bounds-say-end
 slice-reshare-prefix-say c = search rules
 
-slice-aggregate-say : tie.Need-slice-aggregate-say
+slice-aggregate-say : tie.Need-slice_bounds-say-end-2
 slice-aggregate-say c = search rules
 
 say-requires : tie.Need-say-requires
 say-requires c κs = search rules
 
-same-length-2 : tie.Need-same-length-2
+same-length-2 : tie.Need-shape_of-input
 same-length-2 c = search rules
 
-returns-2 : tie.Need-returns-2
+returns-2 : tie.Need-returns
 returns-2 c = search rules
 
-pub answer-spec : {M : Type 1} → statement M
-answer-spec =
+pub answer_spec : {M : Type 1} → statement M
+answer_spec =
     tie.close
     (tie.spec
     read-requires

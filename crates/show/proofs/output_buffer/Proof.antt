@@ -7,5 +7,5 @@ use Rattle.show.proofs.output_buffer.Tie as tie
 returns : tie.Need-returns
 returns c = sym (length-replicate {0} {A = ℕ} 458752 0)
 
-pub output-buffer-spec : {M : Type 1} → statement M
-output-buffer-spec = tie.close (tie.spec returns)
+pub output_buffer_spec : {M : Type 1} → statement M
+output_buffer_spec = tie.close (tie.spec returns)

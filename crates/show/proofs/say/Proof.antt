@@ -6,32 +6,32 @@ use borrow.Author.Rules.{rules}
 use Rattle.show.proofs.say.Statement.{statement}
 use Rattle.show.proofs.say.Tie as tie
 
-output-buffer-requires : tie.Need-output-buffer-requires
+output-buffer-requires : tie.Need-output_buffer-out-requires
 output-buffer-requires c κs = search rules
 
-slice-aggregate-put : tie.Need-slice-aggregate-put
+slice-aggregate-put : tie.Need-slice_bounds-put-end
 slice-aggregate-put c = search rules
 
-put-requires : tie.Need-put-requires
+put-requires : tie.Need-put-n-requires
 put-requires c κs = search rules
 
-slice-aggregate-print : tie.Need-slice-aggregate-print
+slice-aggregate-print : tie.Need-slice_bounds-print-end
 slice-aggregate-print c = search rules
 
 print-requires : tie.Need-print-requires
 print-requires c κs =
-    let p = c.before.before in
-    let b = c.before.before.before.before in
-    puts-within b.output-buffer.result (texts_for c.before.before.before.before.before.before.args.bytes.now (load_of c.before.before.before.before.before.before.args.bytes.now)) p.put.new.0 p.put.result 458752 (let e = b.output-buffer.ensures in omega arith) p.put.ensures
+    let p = c in
+    let b = c in
+    puts-within c.output_buffer-out.result (texts_for c.args.bytes.now (load_of c.args.bytes.now)) c.put-n.new.0 c.put-n.result 458752 (let e = c.output_buffer-out.ensures in omega arith) c.put-n.ensures
 
 returns : tie.Need-returns
 returns c =
-    let p = c.before.before.before in
-    let b = c.before.before.before.before.before in
-    rw (puts-joined b.output-buffer.result (texts_for c.before.before.before.before.before.before.before.args.bytes.now (load_of c.before.before.before.before.before.before.before.args.bytes.now)) p.put.new.0 p.put.result 458752 (let e = b.output-buffer.ensures in omega arith) p.put.ensures) at c.print.ensures
+    let p = c in
+    let b = c in
+    rw (puts-joined c.output_buffer-out.result (texts_for c.args.bytes.now (load_of c.args.bytes.now)) c.put-n.new.0 c.put-n.result 458752 (let e = c.output_buffer-out.ensures in omega arith) c.put-n.ensures) at c.print.ensures
 
-pub say-spec : {M : Type 1} → statement M
-say-spec =
+pub say_spec : {M : Type 1} → statement M
+say_spec =
     tie.close
     (tie.spec
     output-buffer-requires

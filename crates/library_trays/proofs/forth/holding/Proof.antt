@@ -6,13 +6,13 @@ use borrow.Author.Rules.{rules}
 use Rattle.library_trays.proofs.forth.holding.Statement.{statement}
 use Rattle.library_trays.proofs.forth.holding.Tie as tie
 
-shapes-of-requires : tie.Need-shapes-of-requires
+shapes-of-requires : tie.Need-shapes_of-a-requires
 shapes-of-requires c κs = search rules
 
-shape-of-requires : tie.Need-shape-of-requires
+shape-of-requires : tie.Need-shape_of-b-requires
 shape-of-requires c κs = search rules
 
-spotted-requires : tie.Need-spotted-requires
+spotted-requires : tie.Need-spotted-at-requires
 spotted-requires c κs = search rules
 
 flag-requires : tie.Need-flag-requires
@@ -20,7 +20,7 @@ flag-requires c κs = search rules
 
 returns : tie.Need-returns
 unfolding stage_of
-returns c = rw (c.flag.ensures, bit-set, c.before.before.spotted.ensures, c.before.before.before.shape_of.ensures, c.before.before.before.before.shapes-of.ensures) refl
+returns c = rw (c.flag.ensures, bit-set, c.spotted-at.ensures, c.shape_of-b.ensures, c.shapes_of-a.ensures) refl
 
-pub holding-spec : {M : Type 1} → statement M
-holding-spec = tie.close (tie.spec shapes-of-requires shape-of-requires spotted-requires flag-requires returns)
+pub holding_spec : {M : Type 1} → statement M
+holding_spec = tie.close (tie.spec shapes-of-requires shape-of-requires spotted-requires flag-requires returns)

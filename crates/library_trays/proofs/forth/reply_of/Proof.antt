@@ -3,47 +3,47 @@ use borrow.Author.Rules.{rules}
 use Rattle.library_trays.proofs.forth.reply_of.Statement.{statement}
 use Rattle.library_trays.proofs.forth.reply_of.Tie as tie
 
-enum-known-a : tie.Need-enum-known-a
+enum-known-a : tie.Need-enum_known-a
 enum-known-a c = search rules
 
 told-requires : tie.Need-told-requires
 told-requires c κs = search rules
 
-enum-known-a-2 : tie.Need-enum-known-a-2
+enum-known-a-2 : tie.Need-enum_known-a-in-Handed-1
 enum-known-a-2 c = search rules
 
-told-requires-2 : tie.Need-told-requires-2
+told-requires-2 : tie.Need-told-requires-in-Handed
 told-requires-2 c κs = search rules
 
-enum_told : tie.Need-enum-told
+enum_told : tie.Need-enum_told-1
 enum_told c = search rules
 
-told-requires-3 : tie.Need-told-requires-3
+told-requires-3 : tie.Need-told-requires-in-Done
 told-requires-3 c κs = search rules
 
-enum-known-a-3 : tie.Need-enum-known-a-3
+enum-known-a-3 : tie.Need-enum_known-a-in-Refused-1
 enum-known-a-3 c = search rules
 
 number-requires : tie.Need-number-requires
 number-requires c κs = search rules
 
-told-requires-4 : tie.Need-told-requires-4
+told-requires-4 : tie.Need-told-requires-in-Refused
 told-requires-4 c κs = search rules
 
-returns : tie.Need-returns
-returns c = rw c.before.before.a.given.1 c.told.ensures
+returns : tie.Need-returns-in-Taken
+returns c = rw c.in-Taken.is c.told.ensures
 
-returns-2 : tie.Need-returns-2
-returns-2 c = rw c.before.before.a2.given.1 c.told2.ensures
+returns-2 : tie.Need-returns-in-Handed
+returns-2 c = rw c.in-Handed.is c.told-in-Handed.ensures
 
-returns-3 : tie.Need-returns-3
-returns-3 c = rw c.before.enum_told.given.1 c.told3.ensures
+returns-3 : tie.Need-returns-in-Done
+returns-3 c = rw c.in-Done.is c.told-in-Done.ensures
 
-returns-4 : tie.Need-returns-4
-returns-4 c = rw c.before.before.before.a3.given.1 (rw c.before.number.ensures at c.told4.ensures)
+returns-4 : tie.Need-returns-in-Refused
+returns-4 c = rw c.in-Refused.is (rw c.number.ensures at c.told-in-Refused.ensures)
 
-pub reply-of-spec : {M : Type 1} → statement M
-reply-of-spec =
+pub reply_of_spec : {M : Type 1} → statement M
+reply_of_spec =
     tie.close
     (tie.spec
     enum-known-a

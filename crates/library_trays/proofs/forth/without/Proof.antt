@@ -7,5 +7,5 @@ use Rattle.library_trays.proofs.forth.without.Tie as tie
 returns : tie.Need-returns
 returns c = meant-none _ refl
 
-pub without-spec : {M : Type 1} → statement M
-without-spec = tie.close (tie.spec returns)
+pub without_spec : {M : Type 1} → statement M
+without_spec = tie.close (tie.spec returns)

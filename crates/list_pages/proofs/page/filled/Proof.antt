@@ -28,7 +28,7 @@ module _ (h : tie.After-hand_out-o) where
   old = start.args.points.now
 
   abbrev new : List ℤ
-  new = h.hand_out-o.new.1.0
+  new = h.hand_out-o.new.out.0
 
   -- with the answer that the match found
   met : (a : Answer) → h.hand_out-o.result.answer ≡ a → outcome new h.hand_out-o.result.session a ≡ step world (handOut old) (meaning start.args.s)
