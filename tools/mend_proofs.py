@@ -63,6 +63,14 @@ for m in re.finditer(r'(?m)^(\./proofs/\S+\.antt):(\d+):(\d+): error: `[^`]*`: r
             u=pat.sub(lambda x:r+'.new',ls[i])
             if u!=ls[i]: ls[i]=u; n+=1
         continue
+    if re.fullmatch(r't\d+',f) and rec.endswith('.Args'):
+        nm=re.findall(r'`([^`]+)`',(m[8] or '')+(rest.split('named here are',1)[-1] if 'named here are' in rest else ''))
+        if int(f[1:])<=len(nm):
+            pat=re.compile(r'\.args\.'+f+r"(?![\w'-])")
+            for i in range(len(ls)):
+                u=pat.sub('.args.'+nm[int(f[1:])-1],ls[i])
+                if u!=ls[i]: ls[i]=u; n+=1
+            continue
     if f.isdigit() and '.Lts.Last' in rec:
         nm=re.findall(r'`([^`]+)`',(m[8] or '')+rest.split('are',1)[-1])
         if int(f)<len(nm):
@@ -168,6 +176,13 @@ for m in re.finditer(r"(?m)^(\./proofs/\S+\.antt):(\d+):(\d+): error: `[^`]*`: g
     if not k: continue
     ls[l-1]=L[:k.start()]+'to_z-of_z {w = '+w+'}'+L[k.end():]; n+=1
     imports.setdefault(path,set()).add(('mir.Syntax',w))
+for m in re.finditer(r"(?m)^(\./proofs/\S+\.antt):(\d+):(\d+): error: `[^`]*`: expected type `(?:[\w.]*\.)?not [^`]* ≡ (?:[\w.]*\.)?(true|false)`, but this has type `(Prim\.Native\.Nat\.◌<◌ [^`]*|[^`]* (?:<|≤) [^`]*|Prim\.Native\.Nat\.◌≤◌ [^`]*)`",log):
+    l,c=int(m[2]),int(m[3]); path,ls=lines(m[1]); L=ls[l-1]
+    pre=re.search(r'not-(true|false) _ $',L[:c-1])
+    if not pre: continue
+    w='lt-leb' if pre[1]=='true' else 'le-leb'
+    ls[l-1]=L[:pre.start()]+w+' _ _ '+L[c-1:]; n+=1
+    imports.setdefault(path,set()).add(('borrow.Author.Tests',w))
 for path,need in imports.items():
     t='\n'.join(files[path])
     for mod,w in need:

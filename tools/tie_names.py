@@ -201,6 +201,7 @@ for key,of in names.items():
         places[o]=n; places.setdefault(norm(o),n)
         if so and so!=sn: fields[so]=sn; fields.setdefault(norm(so),sn)
     for (o,par,(so,sn),callee,_),n in zip(of['places'],of['places_by_name']): (sn and fields.setdefault(norm(sn),sn)); places.setdefault(norm(n),n)
+    for k0 in list(fields): fields.setdefault(k0.lower().replace('_','-'),fields[k0])
     fields.update({'type-inv':'type_inv','well-formed':'well_formed'})
     loops={}
     for (l,vs) in of['loops']: loops[l[0]]=l[1]; loops.setdefault(norm(l[0]),l[1])
@@ -215,6 +216,10 @@ for key,of in names.items():
             rest=re.sub(r"(?<![\w.'-])"+re.escape(m[1])+r'(?=\.)',m[2],rest)
             t=t[:i]+rest+t[k:]
     # what an arm knows has its name now
+    for (o,par,(so,sn),callee,_),arm in zip(of['places'],of['arms']):
+        q=re.fullmatch(r'At-(match\d*)-(keys\d+|rest)',o)
+        if q and arm and arm[1]==1 and len(arm[2])==1 and not arm[2][0][2]:
+            t=re.sub(r'\.'+q[1]+r'\.'+q[2]+r"(?![\w'-])",'.'+arm[0]+'.'+arm[2][0][0]+'.'+q[2],t)
     owns={}
     for arm in of['arms']:
         for field,step,pth in (arm[2] if arm else []):
@@ -247,8 +252,10 @@ for key,of in names.items():
             out+=['tie','.',y]; i+=3; continue
         if isw(x) and out and out[-1]=='.' and len(out)>1 and out[-2] in('args','new','old','ranges','fits','requires','ensures','result','now','initial'):
             x={'type-inv':'type_inv','well-formed':'well_formed'}.get(x,x)
+        elif isw(x) and out and out[-1]=='.' and len(out)>1 and (out[-2] in loops or out[-2] in loops.values()):
+            x={'inv':'invariant'}.get(x,x)
         elif isw(x) and out and out[-1]=='.' and len(out)>1 and not out[-2].isspace() and not lam(out):
-            x=fields.get(x) or fields.get(norm(x)) or (x.endswith('_lem') and (fields.get(x[:-4]) or fields.get(norm(x[:-4])))) or x
+            x=fields.get(x) or fields.get(norm(x)) or ('-' in x and x.lower()!=x and fields.get(x.lower().replace('_','-'))) or (x.endswith('_lem') and (fields.get(x[:-4]) or fields.get(norm(x[:-4])))) or x
         out.append(x); i+=1
     u=''.join(out)
     olduse=[l for l in t0.split('\n') if l.startswith('use ')]
