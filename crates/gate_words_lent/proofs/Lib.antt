@@ -1,4 +1,0 @@
-mod Again
-pub mod Data
-mod Shared
-mod Two

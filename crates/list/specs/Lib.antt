@@ -1,2 +1,0 @@
--- What a run of the list program comes to.
-pub mod Answered

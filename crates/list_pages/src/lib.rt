@@ -1,6 +1,0 @@
-// What the list program prints: SPEC, "List program".
-#![tactic(auto)]
-
-mod page;
-
-pub use page::{Page, next};

@@ -1,2 +1,0 @@
-pub mod Pattern
-pub mod lemmas
