@@ -1,5 +1,5 @@
 -- Numbers put one behind the other. Assumes nothing.
-use mathlib.Core.Path.{◌≡◌, refl, ap, ap₂, ◌∙◌}
+use mathlib.Core.Path.{◌≡◌, ap, ◌∙◌}
 use mathlib.Core.List.{List, [], ◌∷◌, ◌++◌}
 use Prim.Native.Nat.{ℕ, ◌+◌, ◌≤◌}
 use native.Mathlib.Omega.{arith}
@@ -8,7 +8,7 @@ use lib.IntN.{ℤ}
 use Rattle.text.specs.Written.{written, after}
 use Rattle.text.specs.Append.{Appended, appended, append-more, append-put, append-whole}
 use Rattle.ring.specs.declared.Point.{Point}
-use Rattle.record_fields.specs.Bytes.{little_endian, bits_of, length-bytes}
+use Rattle.record_fields.specs.Bytes.{little_endian, length-bytes}
 use Rattle.pattern_sheet.specs.declared.Sheet.{Sheet}
 use Rattle.pattern_sheet.specs.Write.{number_bytes, point_bytes, bytes_of, length-number, length-point}
 

@@ -73,6 +73,7 @@ impl Refusal {
 }
 
 // One reading.
+#[tactic(auto, unfolding(crate::specs::Sheet::reading_of))]
 pub fn read(reader: u8, bytes: &[u8]) -> Reading
     ensures { result ≡ reading_of reader bytes.now }
 {

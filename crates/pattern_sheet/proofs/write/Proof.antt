@@ -2,7 +2,6 @@ use mathlib.Core.Path.{◌≡◌, refl, sym, ◌∙◌}
 use mathlib.Core.Bool.{true}
 use lib.Dec.{leb}
 use borrow.Author.Rules.{rules}
-use borrow.Author.Tests.{not-true, not-false}
 use Rattle.record_ranges.specs.Ranges.{top_scale}
 use Rattle.entry_equation.specs.Equation.{completes}
 use Rattle.pattern_sheet.proofs.Writings.{write_scale, write_equation, write_full, write_done}

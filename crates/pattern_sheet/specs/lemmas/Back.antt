@@ -1,7 +1,7 @@
 -- Reading what was written: the desk sees the fields again.
-use Rattle.std.specs.Prelude.{◌≡◌, Bool, true, false, cond, leb, ℤ, pos, negsuc, nat_abs, drop, get_or}
+use Rattle.std.specs.Prelude.{◌≡◌, Bool, true, false, cond, leb, ℤ, pos, negsuc, nat_abs, drop}
 use Rattle.std.proofs.Math.Path.{refl, ap₂}
-use Rattle.std.proofs.Common.{sym, ap, ◌∙◌, lt_of_le_of_lt, arith, leb-true, le-leb}
+use Rattle.std.proofs.Common.{sym, ap, ◌∙◌, arith, leb-true, le-leb}
 use mathlib.Core.List.{List, [], ◌∷◌, ◌++◌, append_assoc}
 use Prim.Native.Nat.{ℕ, ◌+◌, ◌^◌, ◌≤◌, ◌<◌}
 use Rattle.std.specs.Int.Signed.{mag}
@@ -12,7 +12,7 @@ use Rattle.record_ranges.specs.Ranges.{top_scale}
 use Rattle.entry_equation.specs.Equation.{completes}
 use Rattle.entry_equation.specs.Size.{bound, Within, given-within, solution_within, within-bound}
 use Rattle.record_fields.specs.Field.{unsigned_at, signed_at}
-use Rattle.record_fields.specs.Bytes.{little_endian, bits_of, unsigned_back, signed_back}
+use Rattle.record_fields.specs.Bytes.{little_endian, unsigned_back, signed_back}
 use Rattle.text.specs.Written.{written}
 use Rattle.pattern_sheet.specs.declared.Sheet.{Sheet}
 use Rattle.pattern_sheet.specs.declared.Refusal.TheVariants.{OutOfRange, NotUnitary, NoRoom}
