@@ -26,7 +26,7 @@ pub fn has_image(s: Session, w: Point) -> Answer
 }
 
 // Whether the operator's inverse sends w to a listed point.
-fn is_image(job: Job, g: Operator, w: Point) -> bool
+pub fn is_image(job: Job, g: Operator, w: Point) -> bool
     ensures { result ≡ is_image job g w }
 {
     let i = g.inverse();
