@@ -1,0 +1,29 @@
+// The console's commands for gate words, their costs and their texts, and for pattern sheets (SPEC, "Console").
+#![tactic(auto)]
+
+mod costs;
+mod letters;
+mod sheets;
+mod texts;
+
+ghost use Rattle.std.specs.Prelude.{◌≡◌, length};
+
+// The line that answers a command, and its length; the arguments begin at `from`.
+pub fn put(out: &mut [u8], c: usize, line: &[u8], from: usize) -> usize {
+    match c {
+        text_words::WORD => letters::put_words(out, line, from),
+        text_words::COST | text_words::TRAY_COST => costs::put_cost(out, c, line, from),
+        text_words::QASM => texts::put_text(out, line, from),
+        text_words::UNQASM => texts::put_word(out, line, from),
+        text_words::SHEET => sheets::put_reading(out, line, from),
+        text_words::PUT_SHEET => sheets::put_sheet(out, line, from),
+        _ => console_replies::put_bad(out),
+    }
+}
+
+// Room for the bytes that the last word of a line spells: one more than a word may have letters.
+pub(crate) fn byte_buffer() -> [u8; 65537]
+    ensures { 65537 ≡ length result }
+{
+    [0; 65537]
+}
