@@ -3,7 +3,7 @@
 
 usage: declared.py c|rust|python
 
-The source's `#[repr(C)]` structs and `#[no_mangle] pub extern "C"` functions give each struct's size, the offset, size and sign of each field in order, and each
+The source's `#[repr(C)]` structs and `#[unsafe(no_mangle)] pub extern "C"` functions give each struct's size, the offset, size and sign of each field in order, and each
 call's parameters and answer. `c` and `rust` print a file that compiles only where the header, or raw.rs, has the same; `python` compares the module's own. A struct or a call that
 one side lacks is an error.
 """
@@ -27,12 +27,12 @@ C_FIELDS = {"operator": "op"}
 
 def source():
     structs, calls = {}, {}
-    for crate in ("library_numbers", "library_calls", "library_trays", "bowujita"):
+    for crate in ("library_numbers", "library_calls", "library_trays", "bowujita", "bowujita_c"):
         for path in sorted((ROOT / "crates" / crate / "src").glob("*.rt")):
             text = re.sub(r"//.*", "", path.read_text())
-            for name, body in re.findall(r"#\[repr\(C\)\]\s*pub struct (\w+) \{(.*?)\n\}", text, re.S):
+            for name, body in re.findall(r"#\[repr\(C\)\]\s*(?:#\[derive\([^)]*\)\]\s*)?pub struct (\w+) \{(.*?)\n\}", text, re.S):
                 structs[name] = re.findall(r"pub (\w+): ([^,]+),", body)
-            for name, takes, gives in re.findall(r'#\[no_mangle\]\s*pub extern "C" fn (\w+)\((.*?)\) -> (\w+)', text, re.S):
+            for name, takes, gives in re.findall(r'#\[unsafe\(no_mangle\)\]\s*pub extern "C" fn (\w+)\((.*?)\) -> (\w+)', text, re.S):
                 calls[name] = ([p.split(":", 1)[1].strip() for p in takes.split(",") if p.strip()], gives)
     return structs, calls
 

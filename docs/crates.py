@@ -30,7 +30,7 @@ def first_comment(name):
 def table():
     lines, open_table, before = [], False, ""
     for line in (root / "crates.txt").read_text().splitlines():
-        name = re.match(r"(\w+):", line)
+        name = re.match(r"(\w+)(?: staticlib)?:", line)
         if name:
             if not open_table:
                 title, sentence = before.split(". ", 1)

@@ -1,6 +1,6 @@
 /* Bowujita: all grid points of a job or a tray, each once, in order; the shortest pattern; its words, texts, costs and sheets. docs/SPEC.md says what each call does.
  *
- * Link with target/staticlib/libbowujita.a (`rt staticlib bowujita`). It needs memcpy and nothing else of a C library, keeps no memory and has no state: a session is
+ * Link with target/staticlib/libbowujita.a (`tools/archive`). It needs memcpy and nothing else of a C library, keeps no memory and has no state: a session is
  * a plain value that you own, copy and compare as you like, and two threads may use two sessions at a time.
  *
  * Every value of bowujita_session is some session, and every value of bowujita_tray_session some session of trays, so no call is undefined whatever their bytes are; all zeros are the fresh ones. What a

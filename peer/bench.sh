@@ -281,7 +281,7 @@ words() {
 # plain questions. A session's hand-outs keep its tally, a tray's do not. ARCHIVE names the library, target/staticlib/libbowujita.a if unset.
 trays() {
     local archive=${ARCHIVE:-$(dirname "$0")/../target/staticlib/libbowujita.a}
-    [ -f "$archive" ] || { echo 'Trays: no library here (rt staticlib bowujita)'; return; }
+    [ -f "$archive" ] || { echo 'Trays: no library here (tools/archive)'; return; }
     "${CC:-cc}" -O2 -I"$(dirname "$0")/../include" -o "$scratch/trays" "$(dirname "$0")/tray_timing.c" "$archive" || exit 2
     echo 'Trays of eight regions with the unit disk as B, all points'
     "$scratch/trays"

@@ -1,4 +1,4 @@
-// Where libbowujita.a is: BOWUJITA_LIB, or target/staticlib of the repository (`rt staticlib bowujita`).
+// Where libbowujita.a is: BOWUJITA_LIB, or target/staticlib of the repository (`tools/archive`).
 use std::path::Path;
 
 fn main() {
