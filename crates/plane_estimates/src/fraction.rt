@@ -87,7 +87,7 @@ fn fraction_of(g: u64, b: u64, z: u64) -> Fraction
     }
 }
 
-// The p/q of the tangent at the end of the chord that typeof.x.X + typeof.y.Y = w has in the disk of radius n.
+// The p/q of the tangent at the end of the chord that x·X + y·Y = w has in the disk of radius n.
 pub fn at_chord(n: u16, x: i16, y: i16, w: i32, u: i16, v: i16) -> Fraction
     requires { (n ≤ 100) × (nat_abs w ≤ 1000000) }
     ensures { FractionSize result }

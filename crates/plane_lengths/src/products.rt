@@ -62,7 +62,7 @@ pub fn inner(u: i16, v: i16, x: i16, y: i16) -> i64
     product(u, x as i32) + product(v, y as i32)
 }
 
-// Whether typeof.x.X + typeof.y.Y at least w leaves one point of the disk of radius n at most: w is at least n times the length of (x, y).
+// Whether x·X + y·Y at least w leaves one point of the disk of radius n at most: w is at least n times the length of (x, y).
 pub fn touches(n: u16, x: i16, y: i16, w: i32) -> bool
     ensures { result ≡ touches (pos n) x y w }
 {

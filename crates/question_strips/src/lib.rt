@@ -1,4 +1,4 @@
-// What a job's regions say of a coordinate ζ with √2·ζ = typeof.u.X + v·Y: a strip lo ≤ n·ζ ≤ hi for ζ, and one for its conjugate.
+// What a job's regions say of a coordinate ζ with √2·ζ = u·X + v·Y: a strip lo ≤ n·ζ ≤ hi for ζ, and one for its conjugate.
 #![tactic(auto)]
 
 ghost use Rattle.std.specs.Prelude.{◌≡◌, true, ◌≤◌};

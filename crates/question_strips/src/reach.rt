@@ -1,4 +1,4 @@
-// How far a region reaches in a direction (u, v) of Z[√2]: a number h with typeof.u.X + typeof.v.Y ≤ h all over it.
+// How far a region reaches in a direction (u, v) of Z[√2]: a number h with u·X + v·Y ≤ h all over it.
 ghost use Rattle.std.specs.Prelude.{◌≡◌, true, ◌+◌, ◌*◌, ◌≤◌, ◌^◌, pos, nat_abs};
 ghost use Rattle.ring.specs.RootTwo.{num};
 ghost use Rattle.ring.specs.RootTwo.Order.{nonneg, ◌⊑◌};

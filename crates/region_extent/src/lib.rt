@@ -17,7 +17,7 @@ use region::Region;
 use shapes::{over_ellipse, over_rectangle};
 pub use tangent::{along, axis, grain, normal, normal_across, slant, value};
 
-// A whole number that typeof.u.X + typeof.v.Y passes nowhere in the region: 0 for one that is not accepted, which holds nothing.
+// A whole number that u·X + v·Y passes nowhere in the region: 0 for one that is not accepted, which holds nothing.
 pub fn reach(region: Region, u: i16, v: i16) -> i64
     ensures { result ≡ reach_of region u v }
 {
