@@ -11,30 +11,30 @@ import re
 import sys
 
 root = pathlib.Path(__file__).resolve().parent.parent
-# claim, then its theorems (crate/specs file: names) and contracts (crate/src file: functions); GROUPS says from which claim on a group goes
+# claim, then its theorems (a file of crate/specs or crate/proofs: names) and contracts (crate/src file: functions); GROUPS says from which claim on a group goes
 GROUPS = {"Demand 1": "The three demands", "Ticket 2, the other entry": "Each request", "What the list program prints": "The programs", "No word at all is shorter": "Optimality"}
 ROOTS = [
     ("Demand 1", {"session_turns/src/reading.rt": "read", "session/src/lib.rt": "hand_out rewind has_solution shortest", "session_images/src/lib.rt": "has_image", "session_stages/src/lib.rt": "start clear"}),
     ("Demand 2", {"session/specs/RunWalk.antt": "run-finished run-empty"}),
-    ("Demand 3", {"session/specs/RunCalls.antt": "run-rules run-first run-rising run-count run-end run-refused run-operators run-others", "session/specs/RunWalk.antt": "run-points"}),
+    ("Demand 3", {"session/specs/RunCalls.antt": "run-rules run-first run-rising run-count run_end run-refused run-operators run-others", "session/specs/RunWalk.antt": "run-points"}),
     ("What is remembered, and the image question", {"session/specs/RunImage.antt": "run-remembers run-image"}),
     ("Ticket 2, the other entry", {"entry/src/lib.rt": "hand_out", "entry/specs/Full.antt": "full-means"}),
     ("Ticket 4, the line problem", {"line/src/lib.rt": "pairs", "line_rows/specs/Steps.antt": "shift-holds scale-holds"}),
-    ("Ticket 6, gate words", {"gate_words_lent/src/lib.rt": "words", "gate_theory/specs/Exact.antt": "word-spells", "gate_theory/specs/Tailed.antt": "normal"}),
-    ("Ticket 7, no shorter pattern", {"pattern_shortest/specs/Minimal.antt": "found-pair fewest missing-pair either-byte"}),
+    ("Ticket 6, gate words", {"gate_words_lent/src/lib.rt": "words", "gate_theory/proofs/Exact.antt": "word-spells", "gate_theory/proofs/Tailed.antt": "normal"}),
+    ("Ticket 7, no shorter pattern", {"pattern_shortest/specs/Minimal.antt": "found-pair fewest missing_pair either_byte"}),
     ("Tickets 8 and 13, rig time", {"gate_tariff/src/lib.rt": "cost tray_cost"}),
     ("Ticket 9, the sign", {"ring_signs/src/wide.rt": "wide_sign_of"}),
-    ("Ticket 10, trays", {"tray/src/lib.rt": "take hand_out rewind clear", "tray/specs/RunCalls.antt": "run-first run-count run-end run-refused run-points run-finished", "tray/specs/Run.antt": "run-rules"}),
+    ("Ticket 10, trays", {"tray/src/lib.rt": "take hand_out rewind clear", "tray/specs/RunCalls.antt": "run-first run-count run_end run-refused run-points run-finished", "tray/specs/Run.antt": "run-rules"}),
     ("Ticket 11, the tally", {"session_tallied/specs/Counted.antt": "run-tallied"}),
-    ("Ticket 12, OpenQASM lines", {"gate_qasm/src/lib.rt": "write read", "gate_qasm/specs/Laws.antt": "same-text word-text text-word text-iff"}),
-    ("Ticket 14, pattern sheets", {"pattern_sheet/src/lib.rt": "read write", "pattern_sheet/specs/Crew.antt": "crew-same crew-blind"}),
+    ("Ticket 12, OpenQASM lines", {"gate_qasm/src/lib.rt": "write read", "gate_qasm/specs/Laws.antt": "same_text word-text text-word text-iff"}),
+    ("Ticket 14, pattern sheets", {"pattern_sheet/src/lib.rt": "read write", "pattern_sheet/specs/Crew.antt": "crew_same crew_blind"}),
     ("What the list program prints", {"list_printing/src/lib.rt": "print_list"}),
     ("What the other programs print", {"pattern_text/src/lib.rt": "put", "job_words/src/lib.rt": "put", "qasm_file/src/lib.rt": "put_file"}),
     ("`job` of what `show` prints", {"record_text/src/lib.rt": "put", "show/specs/Show.antt": "shown-refused", "show/specs/Back.antt": "shown-back"}),
     ("Parts of a list", {"list_segment/src/lib.rt": "print", "part/specs/Joined.antt": "parts-joined parts-output"}),
-    ("No word at all is shorter", {"pattern_t_count/specs/Calls.antt": "run-fewest run-beyond"}),
+    ("No word at all is shorter", {"pattern_t_count/proofs/Calls.antt": "run-fewest run-beyond"}),
 ]
-NAME = r"[^\s(){}\[\],;`\"'.:λ∀→×≡¬]+"
+NAME = r"[^\s(){}\[\],;`\"'.:λ∀→×≡¬]+'*"
 decls, uses, modules = {}, {}, {}
 
 
@@ -45,15 +45,15 @@ class Decl:
 
 def module_of(path):
     parts = path.relative_to(root / "crates").with_suffix("").parts
-    return parts[0], ".".join(parts[2:])
+    return parts[0], parts[1], ".".join(parts[2:])
 
 
 def parse(path):
-    """The declarations of a file of specs/, and what its use lines bring."""
+    """The declarations of a file of specs/ or proofs/, and what its use lines bring."""
     lines = path.read_text().split("\n")
     found, brought, current, comment, given, opening = {}, {}, None, None, [], False
     text = "\n".join(lines)
-    found_uses = list(re.finditer(r"^\s*(?:unfoldable )?(?:pub )?use (Rattle·[^\s{]+?)(?:\.\{(.*?)\}| as (\S+))?$", text, re.M | re.S))
+    found_uses = list(re.finditer(r"^\s*(?:unfoldable )?(?:pub )?use (Rattle\.[^\s{]+?)(?:\.\{(.*?)\}| as (\S+))?$", text, re.M | re.S))
     for m in found_uses:
         where, some, alias = m[1], m[2], m[3]
         if some is not None:
@@ -64,7 +64,7 @@ def parse(path):
                     brought[(new or old).strip()] = (where, old.strip())
         else:
             brought[(alias or where.rsplit(".", 1)[-1])] = (where, None)
-    if len(re.findall(r"^(?!\s*--).*\buse Rattle·", text, re.M)) != len(found_uses):
+    if len(re.findall(r"^(?!\s*--).*\buse Rattle\.", text, re.M)) != len(found_uses):
         sys.exit(f"docs/believe.py: {path.relative_to(root)} has a use line that is not understood")
     for number, line in enumerate(lines, 1):
         stripped = line.strip()
@@ -134,7 +134,7 @@ def struct(crate, name):
 
 
 def load():
-    for path in sorted(root.glob("crates/*/specs/**/*.antt")):
+    for path in sorted([*root.glob("crates/*/specs/**/*.antt"), *root.glob("crates/*/proofs/**/*.antt")]):
         found, brought = parse(path)
         modules[module_of(path)] = path
         decls[path], uses[path] = found, brought
@@ -142,14 +142,14 @@ def load():
 
 def locate(where, name, seen=()):
     """The declaration that a module has or passes on under a name."""
-    m = re.match(r"Rattle·(\w+?)(?:·specs)?\.specs\.(.*)$", where)
+    m = re.match(r"Rattle\.(\w+)\.(specs|proofs)\.(.*)$", where)
     if not m:
         return None
-    crate, inner = m[1], m[2]
-    declared = re.match(r"declared\.(?:\w+\.)*?(\w+)(?:\.the-variants)?$", inner)
+    crate, part, inner = m[1], m[2], m[3]
+    declared = re.match(r"declared\.(?:\w+\.)*?(\w+)(?:\.TheVariants)?$", inner)
     if declared:
         return struct(crate, declared[1])
-    path = modules.get((crate, inner))
+    path = modules.get((crate, part, inner))
     if path is None:
         return None
     if name in decls[path]:
@@ -162,8 +162,8 @@ def locate(where, name, seen=()):
 
 
 def names_in(text):
-    """The names of a text, but for fields: those that are taken (x .f), given (record { f = .. }) or declared (pub f : ..)."""
-    text = re.sub(r"\s\.(" + NAME + ")", " ", text)
+    """The names of a text, but for fields: those that are taken of what stands in brackets ((g x).f), given (record { f = .. }) or declared (pub f : ..)."""
+    text = re.sub(r"([)\]}])(?:\." + NAME + ")+", r"\1", text)
     text = re.sub(r"([{;]\s*)" + NAME + r"\s*=", r"\1", text)
     text = re.sub(r"^(pub )?" + NAME + r"\s*: ", "", text, flags=re.M)
     return re.findall(NAME + r"(?:\." + NAME + ")*", text)
@@ -172,7 +172,7 @@ def names_in(text):
 def found_at(path, where, name):
     """As locate, but a name of the project that leads nowhere is an error: nothing may be missing in silence."""
     d = locate(where, name)
-    crate = re.match(r"Rattle·(\w+)", where)
+    crate = re.match(r"Rattle\.(\w+)", where)
     if d is None and crate and (root / "crates" / crate[1]).is_dir():
         sys.exit(f"docs/believe.py: {path.relative_to(root)} has {name} from {where}, and it is not found there")
     return d
@@ -182,22 +182,21 @@ def followed(path, text, table):
     """The declarations that the names of a text of this file lead to."""
     out = []
     for word in names_in(text):
+        # what follows a name is its fields (x.f), and what follows a module's a name of the module
         parts = word.split(".")
-        if word in table:
-            out.append(table[word])
-        elif word in uses.get(path, {}):
-            where, old = uses[path][word]
+        if parts[0] in table:
+            out.append(table[parts[0]])
+        elif parts[0] in uses.get(path, {}):
+            where, old = uses[path][parts[0]]
             if old is not None:
                 out.append(found_at(path, where, old))
-        elif len(parts) == 2 and parts[0] in uses.get(path, {}):
-            where, old = uses[path][parts[0]]
-            if old is None:
+            elif len(parts) > 1:
                 out.append(found_at(path, where, parts[1]))
     # operators: a name with places for its arguments, all of whose parts stand in the text
     spaced = f" {text} ".replace("\n", " ")
     for mark in [*table, *uses.get(path, {})]:
-        parts = [p for p in mark.split("_") if p]
-        if "_" in mark and parts and all(f" {p} " in spaced or f"{p} " in spaced for p in parts):
+        parts = [p for p in mark.split("◌") if p]
+        if "◌" in mark and parts and all(f" {p} " in spaced or f"{p} " in spaced for p in parts):
             if mark in table:
                 out.append(table[mark])
             else:
@@ -210,12 +209,12 @@ def contract(path, name):
     """The contract of a function: its lines up to the body, with the names that its file brings."""
     lines = path.read_text().split("\n")
     brought = {}
-    for m in re.finditer(r"^ghost use (Rattle·[^\s{]+?)\.\{(.*?)\};$", "\n".join(lines), re.M | re.S):
+    for m in re.finditer(r"^ghost use (Rattle\.[^\s{]+?)\.\{(.*?)\};$", "\n".join(lines), re.M | re.S):
         for item in m[2].replace("\n", " ").split(","):
             old, _, new = item.strip().partition(" as ")
             if old:
                 brought[(new or old).strip()] = (m[1], old.strip())
-    for m in re.finditer(r"^ghost use (Rattle·\S+) as (\S+);$", "\n".join(lines), re.M):
+    for m in re.finditer(r"^ghost use (Rattle\.\S+) as (\S+);$", "\n".join(lines), re.M):
         brought[m[2]] = (m[1], None)
     uses[path] = brought
     for number, line in enumerate(lines, 1):
