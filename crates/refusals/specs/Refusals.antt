@@ -17,7 +17,7 @@ short = 3
 abbrev pub beyond_range : ℕ
 beyond_range = 4
 
--- an ellipse has P-as-R − Q² below 1
+-- an ellipse has P·R − Q² below 1
 abbrev pub not_positive : ℕ
 not_positive = 5
 

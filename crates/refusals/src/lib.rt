@@ -14,7 +14,7 @@ pub const SHORT: u8 = 3;
 // A field, a bound or a number is out of its range.
 pub const OUT_OF_RANGE: u8 = 4;
 
-// An ellipse has P.R − Q² below 1.
+// An ellipse has P·R − Q² below 1.
 pub const NOT_POSITIVE: u8 = 5;
 
 // A parity sum of an operator is odd.

@@ -1,4 +1,4 @@
--- Sizes of two words, h·B + l, against a size K-as-B. Assumes nothing.
+-- Sizes of two words, h·B + l, against a size K·B. Assumes nothing.
 use Prim.Native.Nat.{ℕ, zero, suc, ◌+◌, ◌*◌, ◌≤◌, ◌<◌}
 use mathlib.Core.Path.{◌≡◌, refl}
 use mathlib.Core.Bool.{Bool, true, false}

@@ -55,7 +55,7 @@ minus_borrowed B lx ly l hx hy e = go hx hy
     go : (hx hy : ℤ) → (hx -ℤ hy -ℤ pos 1) *ℤ pos B +ℤ pos l ≡ (hx *ℤ pos B +ℤ pos lx) -ℤ (hy *ℤ pos B +ℤ pos ly)
     go = by⊖ _ λ p n. by⊖ _ λ q m. simp zz (omega arith)
 
--- the upper word of a number below C-as-B in size
+-- the upper word of a number below C·B in size
 pub upper-mag : (B C l : ℕ) (h : ℤ) → l < B → unsigned_abs (h *ℤ pos B +ℤ pos l) < C * B → mag h < C
 upper-mag B C l (pos n) k m = upper-lt' n m
   where
