@@ -1,0 +1,2 @@
+-- What a run of the list program comes to.
+pub mod Answered
