@@ -1,8 +1,8 @@
 // Every refusal with its number and its sentence: SPEC, "Refusals". What refuses has an enum of its own cases, and their numbers are these.
 
-// There is no byte.
 #![tactic(auto)]
 
+// There is no byte.
 pub const NO_KIND: u8 = 1;
 
 // The kind is none of those that are read here.
