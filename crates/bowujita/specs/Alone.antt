@@ -1,6 +1,6 @@
 -- What the calls without a session answer, as plain numbers.
-use Rattle.std.specs.Prelude.{◌≡◌, Bool, List, ℕ, ℤ}
-use Rattle.entry_candidates.specs.declared.Place as EP
+use Rattle.ring.specs.declared.Point.{Point}
+use Rattle.std.specs.Prelude.{◌≡◌, Bool, List, ℕ, ℤ, Option}
 use Rattle.line.specs.declared.Place as LP
 use Rattle.entry.specs.Entry as Entry
 use Rattle.line.specs.Line as Line
@@ -13,7 +13,7 @@ use Rattle.library_calls.specs.declared.alone.Word.{Word}
 use Rattle.library_calls.specs.declared.alone.Three.{Three}
 pub use Rattle.library_calls.specs.Alone.{wide_of, entry_place, line_place, interval_of, handedAs}
 
-pub record Entered (k : ℕ) (u : Four) (p : EP.Place) (old new : List ℤ) (r : Handed) : Type 0 where
+pub record Entered (k : ℕ) (u : Four) (p : Option Point) (old new : List ℤ) (r : Handed) : Type 0 where
   pub values : record { count = r.count; end = is_set r.ended; refusal = r.number } ≡ Entry.values_at k (point_of u) p old
   pub slice : new ≡ Entry.slice_of k (point_of u) p old
 

@@ -1,8 +1,8 @@
 -- Operators and their images as plain numbers.
-use Rattle.std.specs.Prelude.{◌≡◌, ℕ, pos}
+use Rattle.operator.specs.declared.Refusal.{Refusal}
+use Rattle.operator.specs.declared.Operator.{Operator}
+use Rattle.std.specs.Prelude.{◌≡◌, ℕ, pos, Result, Ok, Err}
 use Rattle.ring.specs.declared.Point.{Point}
-use Rattle.operator.specs.declared.Inverse.{Inverse}
-use Rattle.operator.specs.declared.Inverse.TheVariants as I
 use Rattle.operator.specs.Operator.{refusal}
 use Rattle.library_numbers.specs.declared.Eight.{Eight}
 use Rattle.library_numbers.specs.Numbers.{eight_of}
@@ -19,6 +19,6 @@ pub undone-is : {g : Eight} (r : Inverted) → r.number ≡ 0 → r.operator ≡
 undone-is r e f = λ i. record { number = e i; operator = f i }
 
 -- the inverse, or the number of the refusal and zeros
-abbrev pub inverted_of : Inverse → Inverted
-inverted_of (I.Operator h) = record { number = 0; operator = eight_of h }
-inverted_of (I.Refused c) = refused_with (refusal c)
+abbrev pub inverted_of : Result Operator Refusal → Inverted
+inverted_of (Ok h) = record { number = 0; operator = eight_of h }
+inverted_of (Err c) = refused_with (refusal (Err c))

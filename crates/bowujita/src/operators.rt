@@ -6,7 +6,7 @@ ghost use Rattle.library_numbers.specs.Numbers.{point_of, operator_of};
 ghost use Rattle.bowujita.specs.Operators.{wide_four, refused_with, inverted_of};
 
 use library_numbers::{Eight, Four};
-use operator::{Check, Inverse, WidePoint};
+use operator::WidePoint;
 
 // A point of 64-bit numbers.
 #[repr(C)]
@@ -37,14 +37,14 @@ const NO_OPERATOR: Eight = Eight {
     di: 0,
 };
 
-fn number(c: Check) -> u8
+fn number(c: Result<(), operator::Refusal>) -> u8
     ensures { result ≡ refusal c }
 {
     match c {
-        Check::Special => 0,
-        Check::OutOfRange => refusals::OUT_OF_RANGE,
-        Check::OddParity => refusals::ODD_PARITY,
-        Check::NotSpecial => refusals::NOT_SPECIAL,
+        Ok(()) => 0,
+        Err(operator::Refusal::OutOfRange) => refusals::OUT_OF_RANGE,
+        Err(operator::Refusal::OddParity) => refusals::ODD_PARITY,
+        Err(operator::Refusal::NotSpecial) => refusals::NOT_SPECIAL,
     }
 }
 
@@ -82,8 +82,8 @@ pub fn bowujita_inverse(g: Eight) -> Inverted
     let o = library_numbers::operator_of(g);
     let h = o.inverse();
     match h {
-        Inverse::Operator(x) => undone(library_numbers::eight_of(x)),
-        Inverse::Refused(c) => refused(number(c)),
+        Ok(x) => undone(library_numbers::eight_of(x)),
+        Err(c) => refused(number(Err(c))),
     }
 }
 

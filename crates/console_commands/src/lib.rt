@@ -41,9 +41,8 @@ pub fn answer(d: Desk, line: &[u8], out: &mut [u8]) -> Answered
     ensures { IsPrefixLen result.length out.new }
 {
     let a = put_answer(d, line, out);
-    let left = a.desk;
     Answered {
-        desk: left,
+        desk: a.desk,
         length: within(a.length, out),
     }
 }
@@ -56,14 +55,13 @@ fn within(n: usize, out: &[u8]) -> usize
 }
 
 fn put_answer(d: Desk, line: &[u8], out: &mut [u8]) -> Answered {
-    if line.len() == 0 {
-        return kept(d, 0);
+    match line.first() {
+        None | Some(b'#') => kept(d, 0),
+        Some(_) => {
+            let c = command_at(line);
+            put_command(d, c.name, line, c.end, out)
+        }
     }
-    if line[0] == b'#' {
-        return kept(d, 0);
-    }
-    let c = command_at(line);
-    put_command(d, c.name, line, c.end, out)
 }
 
 // A desk that stays.
@@ -111,31 +109,25 @@ fn number_buffer() -> [i32; 4096]
 
 fn put_bench(d: Desk, c: usize, line: &[u8], from: usize, out: &mut [u8]) -> Answered {
     let mut numbers = number_buffer();
-    let t = d.tray;
     let r = console_bench::answer(d.session, c, line, from, &mut numbers);
-    let l = r.line;
-    let s = r.session;
     Answered {
         desk: Desk {
-            session: s,
-            tray: t,
+            session: r.session,
+            ..d
         },
-        length: console_replies::put(out, l, &numbers),
+        length: console_replies::put(out, r.line, &numbers),
     }
 }
 
 fn put_tray(d: Desk, c: usize, line: &[u8], from: usize, out: &mut [u8]) -> Answered {
     let mut numbers = number_buffer();
-    let s = d.session;
     let r = console_tray::answer(d.tray, c, line, from, &mut numbers);
-    let l = r.line;
-    let t = r.session;
     Answered {
         desk: Desk {
-            session: s,
-            tray: t,
+            tray: r.session,
+            ..d
         },
-        length: console_replies::put(out, l, &numbers),
+        length: console_replies::put(out, r.line, &numbers),
     }
 }
 

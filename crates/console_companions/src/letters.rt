@@ -1,20 +1,18 @@
 // `word K`, the four numbers of u, those of t, `LENGTH LENGTH`: gate words.
 ghost use Rattle.std.specs.Prelude.{◌≡◌, length};
 
-use console_arguments::{Four, Scaled};
 use console_replies::put_bad;
 use ring::Point;
-use text_words::{Numbers, Slice};
+use text_words::Numbers;
 
 // The line that answers `word`, and its length; the arguments begin at `from`.
 pub fn put_words(out: &mut [u8], line: &[u8], from: usize) -> usize {
     let n = text_words::numbers_from(line, from);
-    if n.good {
-        if n.count == 11 {
-            return put_spelled(out, n);
-        }
+    if n.good && n.count == 11 {
+        put_spelled(out, n)
+    } else {
+        put_bad(out)
     }
-    put_bad(out)
 }
 
 // The scale, u and t, and how many letters of each slice are lent.
@@ -27,32 +25,17 @@ struct Asked {
     m: usize,
 }
 
-// What the numbers of a line ask for.
-#[derive(Clone, Copy)]
-enum Question {
-    Words(Asked),
-    Bad,
-}
-
-fn asked_of(n: Numbers) -> Question {
+fn asked_of(n: Numbers) -> Option<Asked> {
     let w = n.values;
-    let Scaled::Point(k, u) = console_arguments::scaled_at(&w, 0) else {
-        return Question::Bad;
-    };
-    let Four::Point(t) = console_arguments::point_at(&w, 5) else {
-        return Question::Bad;
-    };
-    let Slice::Length(l) = text_words::lent(w[9]) else {
-        return Question::Bad;
-    };
-    let Slice::Length(m) = text_words::lent(w[10]) else {
-        return Question::Bad;
-    };
-    Question::Words(Asked { k, u, t, l, m })
+    let (k, u) = console_arguments::scaled_at(&w, 0)?;
+    let t = console_arguments::point_at(&w, 5)?;
+    let l = text_words::lent(w[9])?;
+    let m = text_words::lent(w[10])?;
+    Some(Asked { k, u, t, l, m })
 }
 
 fn put_spelled(out: &mut [u8], n: Numbers) -> usize {
-    let Question::Words(a) = asked_of(n) else {
+    let Some(a) = asked_of(n) else {
         return put_bad(out);
     };
     let mut first = letter_buffer();
@@ -77,10 +60,7 @@ fn spelled<'a>(
 ) -> usize {
     let l = a.l;
     let m = a.m;
-    if first.len() < l {
-        return put_bad(out);
-    }
-    if second.len() < m {
+    if first.len() < l || second.len() < m {
         return put_bad(out);
     }
     let c = gate_word_part::word_part(a.k, a.u, a.t, &mut first[..l], &mut second[..m], part);
@@ -106,19 +86,11 @@ fn answered<'a>(
     text::put_byte(out, at, b'\n')
 }
 
-// The first n letters of a slice.
+// The first n letters of a slice after a space, or a dash for none.
 fn front(out: &mut [u8], at: usize, letters: &[u8], n: usize) -> usize {
-    if n <= letters.len() {
-        return shown(out, at, &letters[..n]);
-    }
-    at
-}
-
-// A space and the letters, or a dash for none.
-fn shown(out: &mut [u8], at: usize, letters: &[u8]) -> usize {
     let at = text::put_byte(out, at, b' ');
-    if letters.len() == 0 {
-        return text::put_byte(out, at, b'-');
+    match letters.get(..n) {
+        Some([]) | None => text::put_byte(out, at, b'-'),
+        Some(word) => text::put_bytes(out, at, word),
     }
-    text::put_bytes(out, at, letters)
 }

@@ -12,10 +12,12 @@ ghost use Rattle.std.specs.Prelude.{◌≡◌, length};
 pub fn put(out: &mut [u8], c: usize, line: &[u8], from: usize) -> usize {
     match c {
         text_words::WORD => letters::put_words(out, line, from),
-        text_words::COST | text_words::TRAY_COST => costs::put_cost(out, c, line, from),
+        text_words::COST | text_words::TRAY_COST => {
+            console_replies::put(out, costs::cost(c, line, from), &[])
+        }
         text_words::QASM => texts::put_text(out, line, from),
         text_words::UNQASM => texts::put_word(out, line, from),
-        text_words::SHEET => sheets::put_reading(out, line, from),
+        text_words::SHEET => console_replies::put(out, sheets::reading(line, from), &[]),
         text_words::PUT_SHEET => sheets::put_sheet(out, line, from),
         _ => console_replies::put_bad(out),
     }
@@ -26,4 +28,12 @@ pub(crate) fn byte_buffer() -> [u8; 65537]
     ensures { 65537 ≡ length result }
 {
     [0; 65537]
+}
+
+// The bytes that the last word of a line spells, at the front of a buffer.
+pub(crate) fn last_bytes<'a>(line: &[u8], at: usize, bytes: &'a mut [u8]) -> Option<&'a [u8]> {
+    match text_words::last_bytes(line, at, bytes) {
+        Some(n) => bytes.get(..n),
+        None => None,
+    }
 }

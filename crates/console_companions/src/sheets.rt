@@ -1,38 +1,30 @@
 // `sheet READER` and the bytes of a sheet; `put-sheet ROOM K`, the four numbers of u, those of t, and `TICKS`.
-use crate::byte_buffer;
-use crate::texts::put_hexed;
-use console_arguments::{Four, Natural, Scaled, Word};
 use console_replies::{Line, Value};
-use pattern_sheet::{Reading, Refusal, Sheet, Writing};
-use text_hex::Hex;
-use text_words::{Numbers, Slice};
+use pattern_sheet::{Reading, Refusal, Sheet};
+use text_words::Numbers;
 
-// The line that answers `sheet`, and its length.
-pub fn put_reading(out: &mut [u8], line: &[u8], from: usize) -> usize {
+// The answer to `sheet`.
+pub fn reading(line: &[u8], from: usize) -> Line {
     let n = text_words::numbers_before(line, from, 1);
     if !n.good {
-        return console_replies::put_bad(out);
+        return Line::Bad;
     }
-    let mut bytes = byte_buffer();
-    let h = text_words::last_bytes(line, n.end, &mut bytes);
-    match h {
-        Hex::Bytes(k) => console_replies::put(out, read_by(n.values[0], &bytes, k), &[]),
-        Hex::Bad => console_replies::put_bad(out),
+    let mut given = crate::byte_buffer();
+    match crate::last_bytes(line, n.end, &mut given) {
+        Some(bytes) => read_by(n.values[0], bytes),
+        None => Line::Bad,
     }
 }
 
 // A reading by the reader of a number.
-fn read_by(reader: i64, bytes: &[u8], k: usize) -> Line {
-    let Natural::Fits(r) = console_arguments::natural_of(reader) else {
+fn read_by(reader: i64, bytes: &[u8]) -> Line {
+    let Some(r) = console_arguments::natural_of(reader) else {
         return Line::Bad;
     };
-    if bytes.len() < k {
-        return Line::Bad;
+    match u8::try_from(r) {
+        Ok(r) => read_of(pattern_sheet::read(r, bytes)),
+        Err(_) => Line::Refused(Refusal::NoReader.number()),
     }
-    if 255 < r {
-        return Line::Refused(Refusal::NoReader.number());
-    }
-    read_of(pattern_sheet::read(r as u8, &bytes[..k]))
 }
 
 fn read_of(r: Reading) -> Line {
@@ -50,12 +42,11 @@ fn desk_of(s: Sheet, taken: usize) -> Value {
 // The line that answers `put-sheet`, and its length.
 pub fn put_sheet(out: &mut [u8], line: &[u8], from: usize) -> usize {
     let n = text_words::numbers_from(line, from);
-    if n.good {
-        if n.count == 11 {
-            return put_fields(out, n);
-        }
+    if n.good && n.count == 11 {
+        put_fields(out, n)
+    } else {
+        console_replies::put_bad(out)
     }
-    console_replies::put_bad(out)
 }
 
 // What the numbers of a line ask for: a sheet, and the length of the slice to be lent.
@@ -67,16 +58,16 @@ enum Asked {
 
 fn asked_of(n: Numbers) -> Asked {
     let w = n.values;
-    let Slice::Length(room) = text_words::room(w[0]) else {
+    let Some(room) = text_words::room(w[0]) else {
         return Asked::Bad;
     };
-    let Scaled::Point(k, u) = console_arguments::scaled_at(&w, 1) else {
+    let Some((k, u)) = console_arguments::scaled_at(&w, 1) else {
         return Asked::Bad;
     };
-    let Four::Point(t) = console_arguments::point_at(&w, 6) else {
+    let Some(t) = console_arguments::point_at(&w, 6) else {
         return Asked::Bad;
     };
-    let Word::Fits(ticks) = console_arguments::word_of(w[10]) else {
+    let Some(ticks) = console_arguments::word_of(w[10]) else {
         return Asked::Bad;
     };
     Asked::Sheet(Sheet { k, u, t, ticks }, room)
@@ -87,16 +78,14 @@ fn put_fields(out: &mut [u8], n: Numbers) -> usize {
         return console_replies::put_bad(out);
     };
     let mut bytes = io::large_buffer();
-    written(out, s, &mut bytes, room)
-}
-
-fn written(out: &mut [u8], s: Sheet, bytes: &mut [u8], room: usize) -> usize {
-    if bytes.len() < room {
+    let Some(lent) = bytes.get_mut(..room) else {
         return console_replies::put_bad(out);
-    }
-    let w = pattern_sheet::write(s, &mut bytes[..room]);
-    match w {
-        Writing::Wrote(k) => put_hexed(out, bytes, k),
-        Writing::Refused(f) => console_replies::put_refused(out, f.number()),
+    };
+    match pattern_sheet::write(s, lent) {
+        Ok(k) => match bytes.get(..k) {
+            Some(sheet) => console_replies::put_hexed(out, sheet),
+            None => console_replies::put_bad(out),
+        },
+        Err(f) => console_replies::put_refused(out, f.number()),
     }
 }

@@ -1,6 +1,8 @@
 // What a line of the console is answered, and the line of text that says it (SPEC, "Console").
 #![tactic(auto)]
 
+ghost use Rattle.std.specs.Prelude.{◌≡◌};
+
 use integers_wide::Size;
 use operator::{Operator, WidePoint};
 use ring::Point;
@@ -36,6 +38,22 @@ pub enum Value {
     Handed(usize, bool, usize),
 }
 
+// The session that a line leaves, and its answer.
+#[derive(Clone, Copy)]
+pub struct Reply<S> {
+    pub session: S,
+    pub line: Line,
+}
+
+impl<S> Reply<S> {
+    // A session that stays.
+    pub fn stays(session: S, line: Line) -> Reply<S>
+        ensures { (result.session ≡ session) × (result.line ≡ line) }
+    {
+        Reply { session, line }
+    }
+}
+
 // A point's four numbers.
 pub fn of_point(v: Point) -> Value {
     Value::Four(widened(v))
@@ -58,21 +76,17 @@ pub fn of_desk(taken: usize, k: u8, u: Point, t: Point, ticks: u32) -> Value {
 
 // A hand-out of pairs: the count, and whether it is the end.
 pub fn of_pairs(count: usize, ended: bool) -> Value {
-    Value::Handed(count, ended, twice(count))
+    Value::Handed(count, ended, count.wrapping_mul(2))
 }
 
 // A hand-out of points.
 pub fn of_points(count: usize, ended: bool) -> Value {
-    Value::Handed(count, ended, twice(twice(count)))
+    Value::Handed(count, ended, count.wrapping_mul(4))
 }
 
 // A hand-out of points with their masks, five numbers each.
 pub fn of_masked(count: usize, ended: bool) -> Value {
-    Value::Handed(
-        count,
-        ended,
-        std::num::wrapping_add_usize(twice(twice(count)), count),
-    )
+    Value::Handed(count, ended, count.wrapping_mul(5))
 }
 
 // The line of an answer, and its length; the numbers of a hand-out are the first ones of `numbers`.
@@ -92,41 +106,40 @@ pub fn put_bad(out: &mut [u8]) -> usize {
 // The line of `Line::Refused`.
 pub fn put_refused(out: &mut [u8], number: u8) -> usize {
     let at = text::put_bytes(out, 0, b"refused");
-    let at = unsigned(out, at, number as u64);
+    let at = unsigned(out, at, u64::from(number));
     end(out, at)
 }
 
 // The line of a tally: its 21 counts.
 pub fn put_counts(out: &mut [u8], counts: [Size; 21]) -> usize {
     let mut at = text::put_bytes(out, 0, b"ok");
-    let mut e = 0;
-    while e < 21 {
+    for n in counts.iter() {
         at = text::put_byte(out, at, b' ');
-        at = text::put_wide(out, at, counts[e]);
-        e += 1;
+        at = text::put_wide(out, at, *n);
     }
     end(out, at)
 }
 
 // The line of a byte sequence: `ok` and its digits, or `ok` alone for none.
 pub fn put_hexed(out: &mut [u8], bytes: &[u8]) -> usize {
-    let at = text::put_bytes(out, 0, b"ok");
-    if bytes.len() == 0 {
-        return end(out, at);
-    }
-    let at = text::put_byte(out, at, b' ');
-    let at = text_hex::put_hex(out, at, bytes);
-    end(out, at)
+    put_word(out, bytes, |out, at, word| text_hex::put_hex(out, at, word))
 }
 
 // The line of a word: `ok` and its letters, or `ok` alone for none.
 pub fn put_lettered(out: &mut [u8], word: &[u8]) -> usize {
+    put_word(out, word, |out, at, word| text::put_bytes(out, at, word))
+}
+
+// The line of a word, as `put` writes its bytes: `ok` and the word, or `ok` alone for none.
+fn put_word<F: Fn(&mut [u8], usize, &[u8]) -> usize>(out: &mut [u8], word: &[u8], put: F) -> usize
+    requires { F.IsAlwaysCallable put }
+{
     let at = text::put_bytes(out, 0, b"ok");
-    if word.len() == 0 {
+    if word.is_empty() {
         return end(out, at);
     }
     let at = text::put_byte(out, at, b' ');
-    let at = text::put_bytes(out, at, word);
+    let at = put(out, at, word);
     end(out, at)
 }
 
@@ -201,37 +214,25 @@ fn eight(out: &mut [u8], at: usize, v: WidePoint, w: WidePoint) -> usize {
 
 fn column(a: i16, b: i16, c: i16, d: i16) -> WidePoint {
     WidePoint {
-        a: short(a),
-        b: short(b),
-        c: short(c),
-        d: short(d),
+        a: i64::from(a),
+        b: i64::from(b),
+        c: i64::from(c),
+        d: i64::from(d),
     }
 }
 
-fn short(z: i16) -> i64 {
-    z as i64
-}
-
 fn pattern(out: &mut [u8], at: usize, k: u8, u: WidePoint, t: WidePoint) -> usize {
-    let at = unsigned(out, at, k as u64);
+    let at = unsigned(out, at, u64::from(k));
     eight(out, at, u, t)
 }
 
 fn widened(v: Point) -> WidePoint {
     WidePoint {
-        a: wide(v.a),
-        b: wide(v.b),
-        c: wide(v.c),
-        d: wide(v.d),
+        a: i64::from(v.a),
+        b: i64::from(v.b),
+        c: i64::from(v.c),
+        d: i64::from(v.d),
     }
-}
-
-fn wide(z: i32) -> i64 {
-    z as i64
-}
-
-fn twice(n: usize) -> usize {
-    std::num::wrapping_add_usize(n, n)
 }
 
 fn told(out: &mut [u8], at: usize, n: u64, yes: bool) -> usize {
@@ -250,12 +251,12 @@ fn desk(
 ) -> usize {
     let at = unsigned(out, at, taken as u64);
     let at = pattern(out, at, k, u, t);
-    unsigned(out, at, ticks as u64)
+    unsigned(out, at, u64::from(ticks))
 }
 
 fn crew(out: &mut [u8], at: usize, taken: usize, m: u64, ticks: u32) -> usize {
     let at = pair(out, at, taken as u64, m);
-    unsigned(out, at, ticks as u64)
+    unsigned(out, at, u64::from(ticks))
 }
 
 // A count, the end, and the first n numbers.
@@ -267,19 +268,9 @@ fn handed(
     numbers: &[i32],
     n: usize,
 ) -> usize {
-    let at = told(out, at, count as u64, ended);
-    all(out, at, numbers, n)
-}
-
-fn all(out: &mut [u8], from: usize, numbers: &[i32], n: usize) -> usize {
-    let mut at = from;
-    let mut i = 0;
-    while i < numbers.len() {
-        if n <= i {
-            return at;
-        }
-        at = signed(out, at, wide(numbers[i]));
-        i += 1;
+    let mut at = told(out, at, count as u64, ended);
+    for z in numbers.iter().take(n) {
+        at = signed(out, at, i64::from(*z));
     }
     at
 }

@@ -1,15 +1,13 @@
 // Numbers p + q√2 and points.
-use console_arguments::{Four, Scaled};
 use console_replies::{Line, Value};
 use operator::Operator;
 use record::Refusal;
-use ring::{Point, Quotient, RootTwo, Sign};
+use ring::{Point, RootTwo, Sign};
 use text_words::{Numbers, Pair};
 
 // `sign P Q`, with numbers of two words.
 pub fn sign(line: &[u8], from: usize) -> Line {
-    let n = text_words::pair_from(line, from);
-    match n {
+    match text_words::pair_from(line, from) {
         Pair::Both(p, q) => Line::Good(Value::One(number(ring_signs::wide_sign_of(p, q)))),
         Pair::Bad => Line::Bad,
     }
@@ -28,8 +26,7 @@ pub fn exponent(n: Numbers) -> Line {
     if n.count != 5 {
         return Line::Bad;
     }
-    let w = n.values;
-    let Scaled::Point(k, v) = console_arguments::scaled_at(&w, 0) else {
+    let Some((k, v)) = console_arguments::scaled_at(&n.values, 0) else {
         return Line::Bad;
     };
     exponent_at(k, v)
@@ -40,7 +37,7 @@ fn exponent_at(k: u8, v: Point) -> Line {
         return Line::Refused(Refusal::OutOfRange.number());
     }
     let e = v.exponent(k);
-    Line::Good(Value::Pair(e as u64, ring::pulse_count(e)))
+    Line::Good(Value::Pair(u64::from(e), ring::pulse_count(e)))
 }
 
 // `real`, `imaginary`, `divide`, each with A B C D.
@@ -48,8 +45,7 @@ pub fn point(c: usize, n: Numbers) -> Line {
     if n.count != 4 {
         return Line::Bad;
     }
-    let w = n.values;
-    let Four::Point(v) = console_arguments::point_at(&w, 0) else {
+    let Some(v) = console_arguments::point_at(&n.values, 0) else {
         return Line::Bad;
     };
     match c {
@@ -63,10 +59,10 @@ fn root(x: RootTwo) -> Value {
     Value::Two(x.p, x.q)
 }
 
-fn quotient(q: Quotient) -> Value {
+fn quotient(q: Option<Point>) -> Value {
     match q {
-        Quotient::Whole(v) => console_replies::of_point(v),
-        Quotient::NotInRing => Value::Says(false),
+        Some(v) => console_replies::of_point(v),
+        None => Value::Says(false),
     }
 }
 

@@ -1,7 +1,6 @@
 // Grid operators.
-use console_arguments::{Eight, Four};
 use console_replies::{Line, Value};
-use operator::{Check, Inverse, Operator, WidePoint};
+use operator::{Operator, WidePoint};
 use operator_matrices::Entry;
 use record::Refusal;
 use text_words::Numbers;
@@ -11,7 +10,7 @@ pub fn operator(c: usize, n: Numbers) -> Line {
     if n.count != 8 {
         return Line::Bad;
     }
-    let Eight::Operator(g) = first_of(n) else {
+    let Some(g) = console_arguments::operator_at(&n.values, 0) else {
         return Line::Bad;
     };
     match c {
@@ -22,34 +21,20 @@ pub fn operator(c: usize, n: Numbers) -> Line {
     }
 }
 
-// The operator of the first eight numbers.
-fn first_of(n: Numbers) -> Eight {
-    let v = n.values;
-    console_arguments::operator_at(&v, 0)
-}
-
-// The operator of the last eight numbers.
-fn last_of(n: Numbers) -> Eight {
-    let v = n.values;
-    console_arguments::operator_at(&v, 8)
-}
-
 // A value, for an operator that passes its test.
 fn test(g: Operator, v: Value) -> Line {
-    let c = g.check();
-    match c {
-        Check::Special => Line::Good(v),
-        Check::OutOfRange => Line::Refused(Refusal::OutOfRange.number()),
-        Check::OddParity => Line::Refused(Refusal::OddParity.number()),
-        Check::NotSpecial => Line::Refused(Refusal::NotSpecial.number()),
+    match g.check() {
+        Ok(()) => Line::Good(v),
+        Err(operator::Refusal::OutOfRange) => Line::Refused(Refusal::OutOfRange.number()),
+        Err(operator::Refusal::OddParity) => Line::Refused(Refusal::OddParity.number()),
+        Err(operator::Refusal::NotSpecial) => Line::Refused(Refusal::NotSpecial.number()),
     }
 }
 
 fn inverse_of(g: Operator) -> Line {
-    let i = g.inverse();
-    match i {
-        Inverse::Operator(h) => Line::Good(console_replies::of_operator(h)),
-        Inverse::Refused(_) => test(g, Value::Nothing),
+    match g.inverse() {
+        Ok(h) => Line::Good(console_replies::of_operator(h)),
+        Err(_) => test(g, Value::Nothing),
     }
 }
 
@@ -76,11 +61,10 @@ pub fn apply(n: Numbers) -> Line {
     if n.count != 12 {
         return Line::Bad;
     }
-    let Eight::Operator(g) = first_of(n) else {
+    let Some(g) = console_arguments::operator_at(&n.values, 0) else {
         return Line::Bad;
     };
-    let w = n.values;
-    let Four::Point(v) = console_arguments::point_at(&w, 8) else {
+    let Some(v) = console_arguments::point_at(&n.values, 8) else {
         return Line::Bad;
     };
     test(g, Value::Four(g.image(v)))
@@ -91,10 +75,10 @@ pub fn product(n: Numbers) -> Line {
     if n.count != 16 {
         return Line::Bad;
     }
-    let Eight::Operator(g) = first_of(n) else {
+    let Some(g) = console_arguments::operator_at(&n.values, 0) else {
         return Line::Bad;
     };
-    let Eight::Operator(h) = last_of(n) else {
+    let Some(h) = console_arguments::operator_at(&n.values, 8) else {
         return Line::Bad;
     };
     Line::Good(matrix(operator_matrices::product_of(g, h)))

@@ -1,5 +1,5 @@
 -- The list holds every w that solves, of any integers, and nothing else, in point order, each once. What is left after a place is what comes strictly after it.
-use Rattle.std.specs.Prelude.{◌≡◌, true, false, List, [], ◌↔◌, ℕ, suc, ◌≤◌, pos}
+use Rattle.std.specs.Prelude.{◌≡◌, true, false, List, [], ◌↔◌, ℕ, suc, ◌≤◌, pos, Option, Some, None}
 use Rattle.std.proofs.Math.Path.{refl}
 use Rattle.ring.specs.declared.Point.{Point}
 use Rattle.ring.specs.RootTwo.{◌⊞◌, ◌⊠◌, num}
@@ -15,8 +15,6 @@ use Rattle.entry_equation.specs.lemmas.Tests.{is_false}
 use Rattle.entry_equation.specs.Size.{Within, half, within-bound, solution_within, given-within}
 use Rattle.entry_equation.specs.Meaning.{twice|◌|², unit-length}
 pub use Rattle.entry_candidates.specs.Want.{within-fits}
-use Rattle.entry_candidates.specs.declared.Place.{Place}
-use Rattle.entry_candidates.specs.declared.Place.TheVariants as P
 use Rattle.entry.specs.Entry.{full, left, start_of}
 
 module _ (k : ℕ) (ok : k ≤ top_scale) (v : Point) where
@@ -42,11 +40,11 @@ module _ (k : ℕ) (ok : k ≤ top_scale) (v : Point) where
   full-unique = all-unique (completes k v) solution_fits
 
   -- what is left after a place: the solutions strictly after it
-  pub left-beginning : left k v P.Beginning ≡ full k v
+  pub left-beginning : left k v None ≡ full k v
   unfolding left full
   left-beginning = refl
 
-  pub left_after : (p : Point) → Fits32 p → (w : Point) → ((completes k v w ≡ true) × PointBefore p w) ↔ Listed (left k v (P.After p)) w
+  pub left_after : (p : Point) → Fits32 p → (w : Point) → ((completes k v w ≡ true) × PointBefore p w) ↔ Listed (left k v (Some p)) w
   unfolding left
   left_after p f w =
       let from = passing-holds (completes k v) solution_fits (suc (rank_of p)) w in (
@@ -54,7 +52,7 @@ module _ (k : ℕ) (ok : k ≤ top_scale) (v : Point) where
         λ h. let b = from.1 h in (b.0, (point-order p w f (solution_fits w b.0)).1 b.1),
       )
 
-  pub left_rising : (p : Place) → Rising (start_of p) (left k v p)
+  pub left_rising : (p : Option Point) → Rising (start_of p) (left k v p)
   unfolding left
   left_rising p = rest-rising (λ r. completes k v (point_of r)) (top span) (start_of p)
 

@@ -9,17 +9,3 @@ mod sums;
 
 use ring::Point;
 pub use sums::Want;
-
-// Where the list begins.
-#[derive(Clone, Copy)]
-pub enum Place {
-    Beginning,
-    After(Point),
-}
-
-// The next solution, if there is one.
-#[derive(Clone, Copy)]
-pub enum Found {
-    At(Point),
-    Missing,
-}

@@ -8,24 +8,12 @@ ghost use Rattle.gate_alphabet.specs.Letters.{is_letter, are_letters};
 pub fn are_letters(word: &[u8]) -> bool
     ensures { result ≡ are_letters word.now }
 {
-    let mut i = 0;
-    while i < word.len() {
-        if !is_letter(word[i]) {
-            return false;
-        }
-        i += 1;
-    }
-    true
+    word.iter().all(|b| is_letter(*b))
 }
 
+#[tactic(auto, unfolding(crate::specs::Letters::is_letter, crate::specs::Letters::letter_of))]
 fn is_letter(b: u8) -> bool
     ensures { result ≡ is_letter b }
 {
-    match b {
-        b'H' => true,
-        b'S' => true,
-        b'T' => true,
-        b'W' => true,
-        _ => false,
-    }
+    matches!(b, b'H' | b'S' | b'T' | b'W')
 }

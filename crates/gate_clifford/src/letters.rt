@@ -3,7 +3,7 @@ ghost use Rattle.std.specs.Prelude.{◌≡◌, [], ◌∷◌, ◌++◌, ◌+◌,
 ghost use Rattle.gate_theory.specs.Table.{letter, unpack};
 ghost use Rattle.gate_clifford.specs.Written.{written, byte, Adds};
 
-// The letters of a word, the first `len` of the array.
+// The letters of a word, the first `len` of the array: no heap, and `written` of the specs reads them so.
 #[derive(Clone, Copy)]
 pub struct Word {
     pub letters: [u8; 128],

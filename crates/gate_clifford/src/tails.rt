@@ -42,7 +42,7 @@ fn pick(b: bool, x: usize, y: usize) -> usize
     if b { x } else { y }
 }
 
-// v is ω to this power; 8 for 0.
+// v is ω to this power; 8 for 0. Picks and no chain of ifs: `log` of the specs nests its cases so.
 fn log(v: Point) -> usize
     ensures { (result ≡ log v) × (result ≤ 8) }
 {

@@ -23,11 +23,9 @@ pub(crate) fn put_word(text: &[u8], word: &mut [u8]) -> bool
     let room = word.len();
     let fits = n <= room;
     let end = if fits { n } else { 0 };
-    let mut i = 0;
-    while i < end {
+    for i in 0..end {
         let at = 8 * (n - 1 - i);
         word[i] = letter(text[at]);
-        i += 1;
     }
     fits
 }

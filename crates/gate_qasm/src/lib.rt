@@ -18,13 +18,6 @@ pub enum Refusal {
     NoRoom,
 }
 
-// How many bytes were written.
-#[derive(Clone, Copy)]
-pub enum Answer {
-    Wrote(usize),
-    Refused(Refusal),
-}
-
 impl Refusal {
     pub fn number(self) -> u8
         ensures { result ≡ number_of self }
@@ -38,33 +31,33 @@ impl Refusal {
 }
 
 // The text of a word.
-pub fn write(word: &[u8], text: &mut [u8]) -> Answer
+pub fn write(word: &[u8], text: &mut [u8]) -> Result<usize, Refusal>
     ensures { Writes word.now text.old text.new result }
 {
     let letters = gate_alphabet::are_letters(word);
     let n = lines_of(word);
     let fits = n <= text.len() / 8;
     if !letters {
-        return Answer::Refused(Refusal::NotALetter);
+        return Err(Refusal::NotALetter);
     }
     if !fits {
-        return Answer::Refused(Refusal::NoRoom);
+        return Err(Refusal::NoRoom);
     }
     put_lines(word, text);
     let size = 8 * n;
-    Answer::Wrote(size)
+    Ok(size)
 }
 
 // The word of a text.
-pub fn read(text: &[u8], word: &mut [u8]) -> Answer
+pub fn read(text: &[u8], word: &mut [u8]) -> Result<usize, Refusal>
     ensures { Reads text.now word.old word.new result }
 {
     if !is_text(text) {
-        return Answer::Refused(Refusal::NotALine);
+        return Err(Refusal::NotALine);
     }
     let whole = put_word(text, word);
     if !whole {
-        return Answer::Refused(Refusal::NoRoom);
+        return Err(Refusal::NoRoom);
     }
-    Answer::Wrote(text.len() / 8)
+    Ok(text.len() / 8)
 }

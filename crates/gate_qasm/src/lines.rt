@@ -5,13 +5,12 @@ ghost use Rattle.gate_alphabet.specs.Letters.{letter_of, letters_of};
 ghost use Rattle.gate_qasm.specs.Text.{line, text_of, is_line, are_lines, is_text};
 
 // How many lines a letter has.
+#[tactic(auto, unfolding(gate_alphabet::specs::Letters::letter_of))]
 fn line_of(b: u8) -> usize
     ensures { (8 * result ≡ length (line (letter_of b))) × (result ≤ 1) }
 {
     match b {
-        b'H' => 1,
-        b'S' => 1,
-        b'T' => 1,
+        b'H' | b'S' | b'T' => 1,
         _ => 0,
     }
 }
@@ -21,9 +20,7 @@ pub(crate) fn lines_of(word: &[u8]) -> usize
     ensures { 8 * result ≡ length (text_of (letters_of word.now)) }
 {
     let mut n = 0;
-    let mut i = word.len();
-    while 0 < i {
-        i -= 1;
+    for i in (0..word.len()).rev() {
         n += line_of(word[i]);
     }
     n
@@ -48,9 +45,7 @@ pub(crate) fn put_lines(word: &[u8], out: &mut [u8])
     ensures { out.new ≡ written out.old 0 (text_of (letters_of word.now)) }
 {
     let mut at = 0;
-    let mut i = word.len();
-    while 0 < i {
-        i -= 1;
+    for i in (0..word.len()).rev() {
         at = put_line(out, at, word[i]);
     }
 }
@@ -59,22 +54,16 @@ pub(crate) fn put_lines(word: &[u8], out: &mut [u8])
 fn is_line(part: &[u8]) -> bool
     ensures { result ≡ is_line part.now }
 {
-    if check::same(part, b"h q[0];\n") {
-        return true;
-    }
-    if check::same(part, b"s q[0];\n") {
-        return true;
-    }
-    check::same(part, b"t q[0];\n")
+    check::same(part, b"h q[0];\n")
+        || check::same(part, b"s q[0];\n")
+        || check::same(part, b"t q[0];\n")
 }
 
 // Whether all parts of eight bytes are lines.
 fn are_lines(text: &[u8]) -> bool
     ensures { result ≡ are_lines (length text.now / 8) text.now }
 {
-    let mut i = text.len() / 8;
-    while 0 < i {
-        i -= 1;
+    for i in (0..text.len() / 8).rev() {
         let at = 8 * i;
         let end = at + 8;
         if !is_line(&text[at..end]) {
@@ -85,12 +74,9 @@ fn are_lines(text: &[u8]) -> bool
 }
 
 // Whether a text is lines and nothing else.
+#[tactic(auto, unfolding(crate::specs::Text::is_text))]
 pub(crate) fn is_text(text: &[u8]) -> bool
     ensures { result ≡ is_text text.now }
 {
-    if text.len() % 8 == 0 {
-        are_lines(text)
-    } else {
-        false
-    }
+    text.len() % 8 == 0 && are_lines(text)
 }

@@ -1,4 +1,6 @@
 -- What the code of one word meets: the sum from a place on, and the ticks by the code's tests. Assumes nothing.
+use Rattle.gate_tariff.specs.declared.Refusal.{Refusal}
+use Rattle.std.specs.Prelude.{Result, Ok, Err}
 use mathlib.Core.Path.{◌≡◌, refl, sym, ap}
 use mathlib.Core.Bool.{false}
 use mathlib.Core.List.{List}
@@ -8,9 +10,6 @@ use lib.ListN.{length, get_or, drop}
 use Rattle.gate_alphabet.specs.Letters.{letter_of, letters_of, letters-end, letters-more}
 use Rattle.gate_tariff.specs.declared.Tariff.{Tariff}
 use Rattle.gate_tariff.specs.declared.Refusal.TheVariants.{OutOfRange}
-use Rattle.gate_tariff.specs.declared.Answer.TheVariants as C
-use Rattle.gate_tariff.specs.declared.price.Ticks.{Ticks}
-use Rattle.gate_tariff.specs.declared.price.Ticks.TheVariants.{Sum, Refused}
 use Rattle.gate_tariff.specs.Tariff.{price, in_range, sum_of, ticks_of, Small, answered, cost_of}
 use Rattle.gate_tariff.specs.lemmas.Laws.{ticks_small}
 
@@ -28,14 +27,14 @@ module _ (p : Tariff) (w : List ℕ) where
   sum_more i h = ap (sum_of p) (letters-more w i h)
 
   -- ---- the ticks, by the code's tests
-  pub ticks_price : in_range p ≡ false → Refused OutOfRange ≡ ticks_of p w
+  pub ticks_price : in_range p ≡ false → Err OutOfRange ≡ ticks_of p w
   unfolding ticks_of
   ticks_price e = rw e refl
 
-  pub cost_price : (m : ℕ) → in_range p ≡ false → C.Refused OutOfRange ≡ cost_of p w m
+  pub cost_price : (m : ℕ) → in_range p ≡ false → Err OutOfRange ≡ cost_of p w m
   unfolding cost_of
   cost_price m e = ap (answered m) (ticks_price e)
 
-  pub ticks_fit : (x : Ticks) → x ≡ ticks_of p w → Small x
-  ticks_fit (Sum n) e = omega (arith, ticks_small p w n (sym e))
-  ticks_fit (Refused why) e = tt
+  pub ticks_fit : (x : Result ℕ Refusal) → x ≡ ticks_of p w → Small x
+  ticks_fit (Ok n) e = omega (arith, ticks_small p w n (sym e))
+  ticks_fit (Err why) e = tt

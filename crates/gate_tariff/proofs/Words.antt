@@ -1,4 +1,5 @@
 -- What the code of a tray meets: its words from a place on, the next one, and the sum so far. Assumes nothing.
+use Rattle.std.specs.Prelude.{Result, Ok, Err}
 use mathlib.Core.Path.{◌≡◌, refl, sym, ap, ap₂, ◌∙◌}
 use mathlib.Core.Bool.{Bool, true, false, cond}
 use mathlib.Core.List.{List, [], ◌∷◌}
@@ -15,9 +16,6 @@ use Rattle.gate_tariff.specs.Index.{index_after, index_of}
 use Rattle.gate_tariff.specs.declared.Tariff.{Tariff}
 use Rattle.gate_tariff.specs.declared.Refusal.{Refusal}
 use Rattle.gate_tariff.specs.declared.Refusal.TheVariants.{OutOfRange, NotATray}
-use Rattle.gate_tariff.specs.declared.Answer.TheVariants as C
-use Rattle.gate_tariff.specs.declared.price.Ticks.{Ticks}
-use Rattle.gate_tariff.specs.declared.price.Ticks.TheVariants.{Sum, Refused}
 use Rattle.gate_tariff.specs.Tariff.{in_range, ticks_of, answered}
 use Rattle.gate_tariff.specs.Tray.{begun, words_of, closes, is_tray, size_of, plus, total_of, tray_of}
 use Rattle.gate_tariff.proofs.Prices.{ticks_price}
@@ -124,36 +122,36 @@ words_left s at h = go (dec_lt at (length s))
 
 -- ---- n ticks so far, and those of the words from a place on
 module _ (p : Tariff) where
-  abbrev pub total_from : ℕ → List (List ℕ) → Ticks
-  total_from n ws = plus (Sum n) (total_of p ws)
+  abbrev pub total_from : ℕ → List (List ℕ) → Result ℕ Refusal
+  total_from n ws = plus (Ok n) (total_of p ws)
 
-  pub total_end : (n : ℕ) (ws : List (List ℕ)) → length ws ≡ 0 → total_from n ws ≡ Sum n
+  pub total_end : (n : ℕ) (ws : List (List ℕ)) → length ws ≡ 0 → total_from n ws ≡ Ok n
   unfolding total_of
-  total_end n [] e = let z : n + 0 ≡ n = omega arith in ap Sum z
+  total_end n [] e = let z : n + 0 ≡ n = omega arith in ap Ok z
   total_end n (w ∷ ws) e = absurd (omega arith)
 
-  pub total_more : (n k : ℕ) (w : List ℕ) (ws : List (List ℕ)) → ticks_of p w ≡ Sum k → total_from n (w ∷ ws) ≡ total_from (n + k) ws
+  pub total_more : (n k : ℕ) (w : List ℕ) (ws : List (List ℕ)) → ticks_of p w ≡ Ok k → total_from n (w ∷ ws) ≡ total_from (n + k) ws
   unfolding total_of
   total_more n k w ws e = rw e (go (total_of p ws))
     where
-      go : (x : Ticks) → plus (Sum n) (plus (Sum k) x) ≡ plus (Sum (n + k)) x
-      go (Sum m) = let z : n + (k + m) ≡ n + k + m = omega arith in ap Sum z
-      go (Refused why) = refl
+      go : (x : Result ℕ Refusal) → plus (Ok n) (plus (Ok k) x) ≡ plus (Ok (n + k)) x
+      go (Ok m) = let z : n + (k + m) ≡ n + k + m = omega arith in ap Ok z
+      go (Err why) = refl
 
-  pub total_refused : (n : ℕ) (w : List ℕ) (ws : List (List ℕ)) (why : Refusal) → ticks_of p w ≡ Refused why → total_from n (w ∷ ws) ≡ Refused why
+  pub total_refused : (n : ℕ) (w : List ℕ) (ws : List (List ℕ)) (why : Refusal) → ticks_of p w ≡ Err why → total_from n (w ∷ ws) ≡ Err why
   unfolding total_of
   total_refused n w ws why e = rw e refl
 
   pub total_start : (ws : List (List ℕ)) → total_from 0 ws ≡ total_of p ws
   total_start ws = go (total_of p ws)
     where
-      go : (x : Ticks) → plus (Sum 0) x ≡ x
-      go (Sum m) = let z : 0 + m ≡ m = omega arith in ap Sum z
-      go (Refused why) = refl
+      go : (x : Result ℕ Refusal) → plus (Ok 0) x ≡ x
+      go (Ok m) = let z : 0 + m ≡ m = omega arith in ap Ok z
+      go (Err why) = refl
 
 -- ---- the tray's answer
 module _ (p : Tariff) (s : List ℕ) (m : ℕ) where
-  pub tray_refused : size_of s ≡ 0 → C.Refused NotATray ≡ tray_of p s m
+  pub tray_refused : size_of s ≡ 0 → Err NotATray ≡ tray_of p s m
   unfolding tray_of
   tray_refused e = rw (size-zero s 0 (sym e) refl) refl
 
@@ -162,10 +160,10 @@ module _ (p : Tariff) (s : List ℕ) (m : ℕ) where
   tray_answered e = rw (size-some s (size_of s) refl e).0 refl
 
   -- a price out of range refuses the first word, and so the tray
-  pub tray_price : (size_of s ≡ 0 → ⊥) → in_range p ≡ false → C.Refused OutOfRange ≡ tray_of p s m
+  pub tray_price : (size_of s ≡ 0 → ⊥) → in_range p ≡ false → Err OutOfRange ≡ tray_of p s m
   unfolding total_of
   tray_price e f = sym (ap (answered m) (go (words_of s) (some_word s (size-some s (size_of s) refl e).0))) ∙ tray_answered e
     where
-      go : (ws : List (List ℕ)) → 0 < length ws → total_of p ws ≡ Refused OutOfRange
+      go : (ws : List (List ℕ)) → 0 < length ws → total_of p ws ≡ Err OutOfRange
       go [] h = absurd (omega arith)
       go (w ∷ ws) h = rw (← ticks_price p w f) refl

@@ -1,14 +1,10 @@
 -- Document 02, Ticket 8: what a word costs by a tariff, and whether that fits a memory. Assumes nothing.
-use Rattle.std.specs.Prelude.{Bool, cond, ◌&&◌, List, [], ◌∷◌, ℕ, ◌+◌, ◌/◌, ◌≤◌, leb, length}
+use Rattle.std.specs.Prelude.{Bool, cond, ◌&&◌, List, [], ◌∷◌, ℕ, ◌+◌, ◌/◌, ◌≤◌, leb, length, Result, Ok, Err}
 use Rattle.refusals.specs.Refusals.{beyond_range, not_aLetter, not_aTray}
 use Rattle.gate_alphabet.specs.Letters.{Letter, H, S, T, W, letters_of, are_letters}
 use Rattle.gate_tariff.specs.declared.Tariff.{Tariff}
 use Rattle.gate_tariff.specs.declared.Refusal.{Refusal}
 use Rattle.gate_tariff.specs.declared.Refusal.TheVariants.{OutOfRange, NotALetter, NotATray}
-use Rattle.gate_tariff.specs.declared.Answer.{Answer}
-use Rattle.gate_tariff.specs.declared.Answer.TheVariants as C
-use Rattle.gate_tariff.specs.declared.price.Ticks.{Ticks}
-use Rattle.gate_tariff.specs.declared.price.Ticks.TheVariants.{Sum, Refused}
 
 -- "4 for a price out of range or a word above 65,536 letters, then 15 for a byte that isn't one of the four letters"; 18 of Ticket 13
 abbrev pub number_of : Refusal → ℕ
@@ -41,18 +37,18 @@ abbrev pub rounded : ℕ → ℕ
 rounded n = (n + 999) / 1000
 
 -- the ticks of a word, or the first check that fails
-unfoldable pub ticks_of : Tariff → List ℕ → Ticks
-ticks_of p w = cond (in_range p && leb (length w) top_length) (cond (are_letters w) (Sum (rounded (sum_of p (letters_of w)))) (Refused NotALetter)) (Refused OutOfRange)
+unfoldable pub ticks_of : Tariff → List ℕ → Result ℕ Refusal
+ticks_of p w = cond (in_range p && leb (length w) top_length) (cond (are_letters w) (Ok (rounded (sum_of p (letters_of w)))) (Err NotALetter)) (Err OutOfRange)
 
 -- no sum of the costs of eight words is larger
-abbrev pub Small : Ticks → Type 0
-Small (Sum n) = n ≤ 524288000
-Small (Refused why) = Unit {0}
+abbrev pub Small : Result ℕ Refusal → Type 0
+Small (Ok n) = n ≤ 524288000
+Small (Err why) = Unit {0}
 
 -- "whether it fits a step memory": "yes exactly when the cost is not above it"
-abbrev pub answered : ℕ → Ticks → Answer
-answered m (Sum n) = C.Costs n (leb n m)
-answered m (Refused why) = C.Refused why
+abbrev pub answered : ℕ → Result ℕ Refusal → Result (ℕ × Bool) Refusal
+answered m (Ok n) = Ok (n, (leb n m))
+answered m (Err why) = Err why
 
-unfoldable pub cost_of : Tariff → List ℕ → ℕ → Answer
+unfoldable pub cost_of : Tariff → List ℕ → ℕ → Result (ℕ × Bool) Refusal
 cost_of p w m = answered m (ticks_of p w)

@@ -1,11 +1,8 @@
 -- Document 02, Ticket 13: what the words of a tray cost together. Assumes nothing.
-use Rattle.std.specs.Prelude.{Bool, cond, ◌&&◌, List, [], ◌∷◌, ℕ, ◌+◌, ◌-◌, eqb, leb, length, get_or}
+use Rattle.gate_tariff.specs.declared.Refusal.{Refusal}
+use Rattle.std.specs.Prelude.{Bool, cond, ◌&&◌, List, [], ◌∷◌, ℕ, ◌+◌, ◌-◌, eqb, leb, length, get_or, Result, Ok, Err}
 use Rattle.gate_tariff.specs.declared.Tariff.{Tariff}
 use Rattle.gate_tariff.specs.declared.Refusal.TheVariants.{NotATray}
-use Rattle.gate_tariff.specs.declared.Answer.{Answer}
-use Rattle.gate_tariff.specs.declared.Answer.TheVariants as C
-use Rattle.gate_tariff.specs.declared.price.Ticks.{Ticks}
-use Rattle.gate_tariff.specs.declared.price.Ticks.TheVariants.{Sum, Refused}
 use Rattle.gate_tariff.specs.Tariff.{ticks_of, answered}
 
 -- the words of some bytes, each closed by a line feed; what stands behind the last line feed is none of them
@@ -30,15 +27,15 @@ abbrev pub size_of : List ℕ → ℕ
 size_of s = cond (is_tray s) (length (words_of s)) 0
 
 -- "then those of Ticket 8 for each word in turn": the sum of the words' ticks, or the first refusal
-abbrev pub plus : Ticks → Ticks → Ticks
-plus (Sum n) (Sum m) = Sum (n + m)
-plus (Sum n) (Refused why) = Refused why
-plus (Refused why) x = Refused why
+abbrev pub plus : Result ℕ Refusal → Result ℕ Refusal → Result ℕ Refusal
+plus (Ok n) (Ok m) = Ok (n + m)
+plus (Ok n) (Err why) = Err why
+plus (Err why) x = Err why
 
-unfoldable pub total_of : Tariff → List (List ℕ) → Ticks
-total_of p [] = Sum 0
+unfoldable pub total_of : Tariff → List (List ℕ) → Result ℕ Refusal
+total_of p [] = Ok 0
 total_of p (w ∷ ws) = plus (ticks_of p w) (total_of p ws)
 
 -- "yes exactly when the sum of their costs, each rounded as in Ticket 8, is not above the memory"
-unfoldable pub tray_of : Tariff → List ℕ → ℕ → Answer
-tray_of p s m = cond (is_tray s) (answered m (total_of p (words_of s))) (C.Refused NotATray)
+unfoldable pub tray_of : Tariff → List ℕ → ℕ → Result (ℕ × Bool) Refusal
+tray_of p s m = cond (is_tray s) (answered m (total_of p (words_of s))) (Err NotATray)

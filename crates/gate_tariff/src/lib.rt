@@ -8,7 +8,7 @@ ghost use Rattle.std.specs.Prelude.{◌≡◌};
 ghost use Rattle.gate_tariff.specs.Tariff.{number_of, Small, answered, cost_of};
 ghost use Rattle.gate_tariff.specs.Tray.{tray_of};
 
-use price::{Ticks, in_range, word_ticks};
+use price::{in_range, word_ticks};
 use tray_words::{size, total};
 
 // The prices of the letters, in thousandths of a tick.
@@ -28,13 +28,6 @@ pub enum Refusal {
     NotATray,
 }
 
-// The cost in whole ticks, and whether the memory has as many.
-#[derive(Clone, Copy)]
-pub enum Answer {
-    Costs(u32, bool),
-    Refused(Refusal),
-}
-
 impl Refusal {
     pub fn number(self) -> u8
         ensures { result ≡ number_of self }
@@ -48,41 +41,41 @@ impl Refusal {
 }
 
 // What a number of ticks answers, of a memory.
-fn answered(t: Ticks, memory: u32) -> Answer
+fn answered(t: Result<u64, Refusal>, memory: u32) -> Result<(u32, bool), Refusal>
     requires { Small t }
     ensures { result ≡ answered memory t }
 {
     match t {
-        Ticks::Sum(n) => {
+        Ok(n) => {
             let cost = n as u32;
-            Answer::Costs(cost, n <= memory as u64)
+            Ok((cost, n <= u64::from(memory)))
         }
-        Ticks::Refused(why) => Answer::Refused(why),
+        Err(why) => Err(why),
     }
 }
 
 // What a word costs, and whether it fits a memory.
-pub fn cost(tariff: Tariff, word: &[u8], memory: u32) -> Answer
+pub fn cost(tariff: Tariff, word: &[u8], memory: u32) -> Result<(u32, bool), Refusal>
     ensures { result ≡ cost_of tariff word.now memory }
 {
     if !in_range(tariff) {
-        return Answer::Refused(Refusal::OutOfRange);
+        return Err(Refusal::OutOfRange);
     }
     answered(word_ticks(tariff, word), memory)
 }
 
 // What the words of a tray cost together, each closed by a line feed, and whether they fit a memory together.
 #[tactic(auto, using(crate::proofs::Words::tray_refused, crate::proofs::Words::tray_answered, crate::proofs::Words::tray_price))]
-pub fn tray_cost(tariff: Tariff, words: &[u8], memory: u32) -> Answer
+pub fn tray_cost(tariff: Tariff, words: &[u8], memory: u32) -> Result<(u32, bool), Refusal>
     ensures { result ≡ tray_of tariff words.now memory }
 {
     let n = size(words);
     let priced = in_range(tariff);
     if n == 0 {
-        return Answer::Refused(Refusal::NotATray);
+        return Err(Refusal::NotATray);
     }
     if !priced {
-        return Answer::Refused(Refusal::OutOfRange);
+        return Err(Refusal::OutOfRange);
     }
     answered(total(tariff, words, n), memory)
 }

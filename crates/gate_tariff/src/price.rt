@@ -9,13 +9,6 @@ const TOP_PRICE: u32 = 1000000;
 
 const TOP_LENGTH: usize = 65536;
 
-// What a word costs in whole ticks, or why there is no such cost.
-#[derive(Clone, Copy)]
-pub enum Ticks {
-    Sum(u64),
-    Refused(Refusal),
-}
-
 // Whether no price is above the top.
 pub(crate) fn in_range(tariff: Tariff) -> bool
     ensures { result ≡ in_range tariff }
@@ -44,27 +37,25 @@ fn sum(tariff: Tariff, word: &[u8]) -> u64
     ensures { result ≡ sum_of tariff (letters_of word.now) }
 {
     let mut n = 0;
-    let mut i = 0;
-    while i < word.len() {
-        n += price(tariff, word[i]) as u64;
-        i += 1;
+    for b in word {
+        n += u64::from(price(tariff, *b));
     }
     n
 }
 
 // The ticks of a word: the sum of its prices, rounded up once.
 #[tactic(auto, unfolding(crate::specs::Tariff::ticks_of))]
-pub(crate) fn word_ticks(tariff: Tariff, word: &[u8]) -> Ticks
+pub(crate) fn word_ticks(tariff: Tariff, word: &[u8]) -> Result<u64, Refusal>
     requires { in_range tariff ≡ true }
     ensures { result ≡ ticks_of tariff word.now }
 {
     let short = word.len() <= TOP_LENGTH;
     let letters = gate_alphabet::are_letters(word);
     if !short {
-        return Ticks::Refused(Refusal::OutOfRange);
+        return Err(Refusal::OutOfRange);
     }
     if !letters {
-        return Ticks::Refused(Refusal::NotALetter);
+        return Err(Refusal::NotALetter);
     }
-    Ticks::Sum((sum(tariff, word) + 999) / 1000)
+    Ok((sum(tariff, word) + 999) / 1000)
 }

@@ -4,8 +4,8 @@ ghost use Rattle.gate_tariff.specs.Index.{index_of};
 ghost use Rattle.gate_tariff.specs.Tariff.{in_range, Small};
 ghost use Rattle.gate_tariff.specs.Tray.{words_of, is_tray, size_of, total_of};
 
-use crate::Tariff;
-use crate::price::{Ticks, word_ticks};
+use crate::price::word_ticks;
+use crate::{Refusal, Tariff};
 
 const TOP_WORDS: usize = 8;
 
@@ -14,9 +14,7 @@ fn words_of(s: &[u8]) -> usize
     ensures { result ≡ length (words_of s.now) }
 {
     let mut n = 0;
-    let mut i = s.len();
-    while 0 < i {
-        i -= 1;
+    for i in (0..s.len()).rev() {
         if s[i] == b'\n' {
             n += 1;
         }
@@ -43,25 +41,23 @@ pub(crate) fn size(s: &[u8]) -> usize
 }
 
 // The ticks of the n words of a tray, or the first refusal.
-pub(crate) fn total(tariff: Tariff, s: &[u8], n: usize) -> Ticks
+pub(crate) fn total(tariff: Tariff, s: &[u8], n: usize) -> Result<u64, Refusal>
     requires { (in_range tariff ≡ true) × (is_tray s.now ≡ true) × (n ≡ length (words_of s.now)) }
     ensures { (result ≡ total_of tariff (words_of s.now)) × Small result }
 {
     let mut sum = 0;
     let mut at = 0;
-    let mut i = 0;
-    while i < n {
+    for _i in 0..n {
         let end = find(s, at, b'\n');
         match word_ticks(tariff, &s[at..end]) {
-            Ticks::Sum(k) => {
+            Ok(k) => {
                 sum += k;
                 at = end + 1;
-                i += 1;
             }
-            Ticks::Refused(why) => return Ticks::Refused(why),
+            Err(why) => return Err(why),
         }
     }
-    Ticks::Sum(sum)
+    Ok(sum)
 }
 
 // The place of the first byte b from at on, or the length.
@@ -69,12 +65,10 @@ fn find(s: &[u8], at: usize, b: u8) -> usize
     requires { at ≤ length s.now }
     ensures { result ≡ at + index_of b (drop at s.now) }
 {
-    let mut i = at;
-    while i < s.len() {
+    for i in at..s.len() {
         if s[i] == b {
             return i;
         }
-        i += 1;
     }
-    i
+    s.len()
 }

@@ -1,10 +1,8 @@
 -- The word of (k, u, t) spells the matrix with rows (u, −t†) and (t, u†) over √2^k, exactly.
-use Rattle.std.specs.Prelude.{◌≡◌, refl, Bool, true, false, List, [], ◌∷◌, ℕ, zero, suc, ◌+◌, pos}
+use Rattle.std.specs.Prelude.{◌≡◌, refl, Bool, true, false, List, [], ◌∷◌, ℕ, zero, suc, ◌+◌, pos, Option, Some, None}
 use Rattle.std.proofs.Common.{sym, ◌∙◌, ap, ap₂, subst, arith}
 use Rattle.integers.specs.lemmas.Ring.{poly, by_ring}
 use Rattle.ring.specs.declared.Point.{Point}
-use Rattle.ring.specs.declared.Quotient.{Quotient}
-use Rattle.ring.specs.declared.Quotient.TheVariants.{Whole, NotInRing}
 use Rattle.ring.specs.Point.{◌+ω◌, ◌*ω◌, negω, numω, ω, √2ω, ringω, *ω-comm}
 use Rattle.ring.specs.Point.Divide.{divide_root2, halves, divide_whole}
 use Rattle.ring.specs.Point.Exponent.{exponent_of}
@@ -42,15 +40,15 @@ unfolding reduced
 reduced-spells zero u t e = spelled-spells _ _ (reduced-least 0 u t e)
 reduced-spells (suc k) u t e = go (divide_root2 u) refl (λ x y f. reduced-spells k x y f) (reduced-least (suc k) u t e)
   where
-    from : ℕ → Quotient → State
+    from : ℕ → Option Point → State
     from k q = over (record { k = suc k; u = u; t = t; l = 0 }) (λ x. reduced k x (halves t)) q
 
-    go : (q : Quotient) → divide_root2 u ≡ q → ((x y : Point) → Equation k x y → Spells (spelled (reduced k x y)) k (made x y 0)) → Least (exponent_of (suc k) u) (from k q) → Spells (spelled (from k q)) (suc k) (made u t 0)
-    go (Whole x) d ih l =
+    go : (q : Option Point) → divide_root2 u ≡ q → ((x y : Point) → Equation k x y → Spells (spelled (reduced k x y)) k (made x y 0)) → Least (exponent_of (suc k) u) (from k q) → Spells (spelled (from k q)) (suc k) (made u t 0)
+    go (Some x) d ih l =
         let p = divide_whole u x d in
         let q = t-over k u t x e p in
         subst (Spells (spelled (reduced k x (halves t))) (suc k)) (sym (made-√2 x (halves t) 0) ∙ ap₂ (λ u t. made u t 0) p q) (raised _ k _ (ih x (halves t) (equation_over k u t x (halves t) p q e)))
-    go NotInRing d ih l = spelled-spells _ _ l
+    go None d ih l = spelled-spells _ _ l
 
 pub word-spells : (k : ℕ) (u t : Point) → Equation k u t → Spells (word k u t) k (made u t 0)
 unfolding word

@@ -1,9 +1,7 @@
 -- The word of a matrix, and its number of T.
-use Rattle.std.specs.Prelude.{◌≡◌, refl, Bool, true, false, cond, List, [], ◌∷◌, ◌++◌, ℕ, zero, suc, ◌+◌, ◌-◌, ◌*◌, ◌/◌, ◌%◌, ◌<◌, eqb, get_or}
+use Rattle.std.specs.Prelude.{◌≡◌, refl, Bool, true, false, cond, List, [], ◌∷◌, ◌++◌, ℕ, zero, suc, ◌+◌, ◌-◌, ◌*◌, ◌/◌, ◌%◌, ◌<◌, eqb, get_or, Option, Some, None}
 use Rattle.std.proofs.Common.{◌∙◌, ap, arith}
 use Rattle.ring.specs.declared.Point.{Point}
-use Rattle.ring.specs.declared.Quotient.{Quotient}
-use Rattle.ring.specs.declared.Quotient.TheVariants.{Whole, NotInRing}
 use Rattle.ring.specs.Point.Divide.{divide_root2, halves}
 use Rattle.gate_theory.specs.Bits.{odd}
 use Rattle.gate_theory.specs.Points.{back}
@@ -39,9 +37,9 @@ abbrev pub spelled : State → List Letter
 spelled s = front (bare_at_zero s) s
 
 -- u and t divided by √2 as often as u can be, k times at most
-abbrev pub over : State → (Point → State) → Quotient → State
-over s f (Whole x) = f x
-over s f NotInRing = s
+abbrev pub over : State → (Point → State) → Option Point → State
+over s f (Some x) = f x
+over s f None = s
 
 unfoldable pub reduced : ℕ → Point → Point → State
 reduced zero u t = record { k = 0; u = u; t = t; l = 0 }
@@ -92,12 +90,12 @@ pub reduced-zero : (u t : Point) → reduced 0 u t ≡ record { k = 0; u = u; t 
 unfolding reduced
 reduced-zero u t = refl
 
-pub reduced-whole : (k : ℕ) (u t x : Point) → 0 < k → divide_root2 u ≡ Whole x → reduced (k - 1) x (halves t) ≡ reduced k u t
+pub reduced-whole : (k : ℕ) (u t x : Point) → 0 < k → divide_root2 u ≡ Some x → reduced (k - 1) x (halves t) ≡ reduced k u t
 unfolding reduced
 reduced-whole zero u t x h d = absurd (omega arith)
 reduced-whole (suc k) u t x h d = let f : suc k - 1 ≡ k = omega arith in rw (f, d) refl
 
-pub reduced-not : (k : ℕ) (u t : Point) → 0 < k → divide_root2 u ≡ NotInRing → record { k = k; u = u; t = t; l = 0 } ≡ reduced k u t
+pub reduced-not : (k : ℕ) (u t : Point) → 0 < k → divide_root2 u ≡ None → record { k = k; u = u; t = t; l = 0 } ≡ reduced k u t
 unfolding reduced
 reduced-not zero u t h d = absurd (omega arith)
 reduced-not (suc k) u t h d = rw d refl

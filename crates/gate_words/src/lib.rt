@@ -129,10 +129,7 @@ pub fn spell_part(k: u8, u: Point, t: Point, first: &mut [u8], second: &mut [u8]
 fn front(s: &[u8], n: usize) -> &[u8]
     ensures { (result.now ≡ take n s.now) × (result.ref_ptr ≡ s.entry.ref_ptr) }
 {
-    if n <= s.len() {
-        return &s[..n];
-    }
-    s
+    &s[..n.min(s.len())]
 }
 
 // The part that an answer names, of one of two lent slices.

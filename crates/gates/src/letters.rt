@@ -1,7 +1,7 @@
 // A word in an array: its syllables, and how many T it has.
 ghost use Rattle.std.specs.Prelude.{◌≡◌, ◌+◌, ◌≤◌};
 ghost use Rattle.gate_theory.specs.Word.{syllable};
-ghost use Rattle.gates.specs.Written.{written, one, tally, Adds};
+ghost use Rattle.gates.specs.Written.{written, tally, Adds};
 
 use gate_clifford::{Word, push};
 
@@ -16,27 +16,10 @@ pub(crate) fn syllable(w: Word, bare: bool) -> Word
     push(push(push(w, b'S'), b'H'), b'T')
 }
 
-fn one_t(b: u8) -> usize
-    ensures { result ≡ one b }
-{
-    if b == b'T' {
-        return 1;
-    }
-    0
-}
-
 // How many T a word has.
 pub fn ts(w: Word) -> usize
     requires { w.len ≤ 128 }
     ensures { result ≡ tally (written w) }
 {
-    let a = w.letters;
-    let n = w.len;
-    let mut m = 0;
-    let mut i = 0;
-    while i < n {
-        m += one_t(a[i]);
-        i += 1;
-    }
-    m
+    w.letters[..w.len].iter().filter(|b| **b == b'T').count()
 }

@@ -56,8 +56,8 @@ fn without_t(s: State) -> State
     let t = over_omega(s.t);
     State {
         k: s.k,
-        u: u,
-        t: t,
+        u,
+        t,
         l: s.l + 7,
     }
 }
@@ -69,11 +69,9 @@ fn body(w: Word, s: State, r: u32) -> Word
 {
     let mut out = w;
     let mut x = s;
-    let mut n = r;
-    while 0 < n {
+    for _ in 0..r {
         out = syllable(out, is_bare(x));
         x = next(x);
-        n -= 1;
     }
     tail(out, x)
 }

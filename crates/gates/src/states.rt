@@ -6,7 +6,7 @@ ghost use Rattle.gate_theory.specs.Word.{reduced};
 use crate::elements::{half, less, over_omega, over_root2, plus, unturn};
 use crate::parity::{bare, none, parities};
 use gate_theory::State;
-use ring::{Point, Quotient};
+use ring::Point;
 
 // How far the phase moves with a syllable.
 fn shift(b: bool) -> u32
@@ -37,7 +37,7 @@ pub(crate) fn next(s: State) -> State
             k: s.k - 1,
             u: x,
             t: y,
-            l: l,
+            l,
         }
     } else {
         let x = over_root2(p);
@@ -46,7 +46,7 @@ pub(crate) fn next(s: State) -> State
             k: s.k,
             u: x,
             t: y,
-            l: l,
+            l,
         }
     }
 }
@@ -57,9 +57,8 @@ pub(crate) fn reduce(k: u32, u: Point, t: Point) -> State
 {
     let mut x = u;
     let mut y = t;
-    let mut e = k;
-    while 0 < e {
-        let Quotient::Whole(z) = x.divide_root2() else {
+    for e in (1..=k).rev() {
+        let Some(z) = x.divide_root2() else {
             return State {
                 k: e,
                 u: x,
@@ -69,7 +68,6 @@ pub(crate) fn reduce(k: u32, u: Point, t: Point) -> State
         };
         x = z;
         y = over_root2(y);
-        e -= 1;
     }
     State {
         k: 0,

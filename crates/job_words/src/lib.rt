@@ -43,6 +43,7 @@ fn bad_line(bytes: &[u8]) -> usize
 {
     let mut at = 0;
     let mut line = 1;
+    // A while: the step is not one, it is past the line.
     while at < bytes.len() {
         let end = text_scan::line_end(bytes, at);
         if is_bad(&bytes[at..end]) {
@@ -60,6 +61,7 @@ fn exceeds(bytes: &[u8]) -> bool
 {
     let mut at = 0;
     let mut total = 0;
+    // A while: the step is not one, it is past the line.
     while at < bytes.len() {
         let end = text_scan::line_end(bytes, at);
         total += row_length(&bytes[at..end]);
@@ -77,6 +79,7 @@ fn put_records(out: &mut [u8], bytes: &[u8]) -> usize
 {
     let mut at = 0;
     let mut end_of = 0;
+    // A while: the step is not one, it is past the line.
     while at < bytes.len() {
         let end = text_scan::line_end(bytes, at);
         end_of = put_row(out, end_of, &bytes[at..end]);
@@ -89,7 +92,7 @@ fn is_bad(line: &[u8]) -> bool
     ensures { result ≡ is_bad (row_of line.now) }
 {
     let r = reading::row_of(line);
-    if r.blank { false } else { !r.good }
+    !r.blank && !r.good
 }
 
 // How many bytes a line's record has.
@@ -97,10 +100,7 @@ fn row_length(line: &[u8]) -> usize
     ensures { (result ≡ length (row_bytes (row_of line.now))) × (result ≤ 21) }
 {
     let r = reading::row_of(line);
-    if r.blank {
-        return 0;
-    }
-    if !r.good {
+    if r.blank || !r.good {
         return 0;
     }
     let kind = r.kind;
@@ -112,10 +112,7 @@ fn put_row(out: &mut [u8], at: usize, line: &[u8]) -> usize
     ensures { Laid out.old at (row_bytes (row_of line.now)) out.new result }
 {
     let r = reading::row_of(line);
-    if r.blank {
-        return at;
-    }
-    if !r.good {
+    if r.blank || !r.good {
         return at;
     }
     let numbers = r.numbers;

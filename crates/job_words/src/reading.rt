@@ -128,10 +128,7 @@ fn disk_of(numbers: [i64; 16], count: usize) -> Row
 fn disk_over(n: i64) -> Row
     ensures { Means (fittedOf Kind.Ellipse (disk_numbers n)) result }
 {
-    if n < 0 {
-        return empty(false);
-    }
-    if 65535 < n {
+    if n < 0 || 65535 < n {
         return empty(false);
     }
     fitted(

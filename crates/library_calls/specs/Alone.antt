@@ -1,7 +1,6 @@
 -- What plain numbers mean as arguments and answers of the calls without a session.
-use Rattle.std.specs.Prelude.{◌≡◌, Bool, cond, ℕ, eqb, ℤ}
-use Rattle.entry_candidates.specs.declared.Place as EP
-use Rattle.entry_candidates.specs.declared.Place.TheVariants as E
+use Rattle.ring.specs.declared.Point.{Point}
+use Rattle.std.specs.Prelude.{◌≡◌, Bool, cond, ℕ, eqb, ℤ, Option, Some, None}
 use Rattle.line.specs.declared.Place as LP
 use Rattle.line.specs.declared.Place.TheVariants as L
 use Rattle.line_steps.specs.declared.Interval.{Interval}
@@ -15,8 +14,8 @@ use Rattle.library_calls.specs.declared.alone.Three.{Three}
 abbrev pub wide_of : TwoWords → Wide
 wide_of x = record { hi = x.hi; lo = x.lo }
 
-abbrev pub entry_place : ℕ → Four → EP.Place
-entry_place after v = cond (eqb after 0) E.Beginning (E.After (point_of v))
+abbrev pub entry_place : ℕ → Four → Option Point
+entry_place after v = cond (eqb after 0) None (Some (point_of v))
 
 abbrev pub line_place : ℕ → ℤ → ℤ → LP.Place
 line_place after a b = cond (eqb after 0) L.Beginning (L.After a b)

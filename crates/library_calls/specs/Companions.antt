@@ -1,18 +1,15 @@
 -- What the calls on words, texts and sheets take and answer, as plain numbers. What does not belong to an answer is 0.
-use Rattle.std.specs.Prelude.{Bool, false, ℕ, pos}
+use Rattle.gate_tariff.specs.declared.Refusal as TariffRefusal
+use Rattle.gate_qasm.specs.declared.Refusal as QasmRefusal
+use Rattle.pattern_sheet.specs.declared.Refusal as SheetRefusal
+use Rattle.std.specs.Prelude.{Bool, false, ℕ, pos, Result, Ok, Err}
 use Rattle.ring.specs.declared.Point.{Point}
 use Rattle.gate_tariff.specs.declared.Tariff.{Tariff}
-use Rattle.gate_tariff.specs.declared.Answer as Cost
-use Rattle.gate_tariff.specs.declared.Answer.TheVariants as C
 use Rattle.gate_tariff.specs.Tariff as Tariffs
-use Rattle.gate_qasm.specs.declared.Answer as Text
-use Rattle.gate_qasm.specs.declared.Answer.TheVariants as T
 use Rattle.gate_qasm.specs.Calls as Qasm
 use Rattle.pattern_sheet.specs.declared.Sheet.{Sheet}
 use Rattle.pattern_sheet.specs.declared.Reading.{Reading}
 use Rattle.pattern_sheet.specs.declared.Reading.TheVariants as R
-use Rattle.pattern_sheet.specs.declared.Writing.{Writing}
-use Rattle.pattern_sheet.specs.declared.Writing.TheVariants as W
 use Rattle.pattern_sheet.specs.Sheet as Sheets
 use Rattle.library_numbers.specs.Numbers.{bit, point_of, four_of}
 use Rattle.library_calls.specs.declared.companions.Prices.{Prices}
@@ -27,16 +24,16 @@ tariff_of p = record { h = p.h; s = p.s; t = p.t; w = p.w }
 abbrev pub costs : ℕ → Bool → ℕ → Ticks
 costs number fits ticks = record { number = number; fits = bit fits; ticks = ticks }
 
-abbrev pub ticks_of : Cost.Answer → Ticks
-ticks_of (C.Costs n fits) = costs 0 fits n
-ticks_of (C.Refused f) = costs (Tariffs.number_of f) false 0
+abbrev pub ticks_of : Result (ℕ × Bool) TariffRefusal.Refusal → Ticks
+ticks_of (Ok (n, fits)) = costs 0 fits n
+ticks_of (Err f) = costs (Tariffs.number_of f) false 0
 
 abbrev pub wrote : ℕ → ℕ → Wrote
 wrote number count = record { number = number; count = count }
 
-abbrev pub wrote_of : Text.Answer → Wrote
-wrote_of (T.Wrote n) = wrote 0 n
-wrote_of (T.Refused f) = wrote (Qasm.number_of f) 0
+abbrev pub wrote_of : Result ℕ QasmRefusal.Refusal → Wrote
+wrote_of (Ok n) = wrote 0 n
+wrote_of (Err f) = wrote (Qasm.number_of f) 0
 
 abbrev pub origin : Point
 origin = record { a = pos 0; b = pos 0; c = pos 0; d = pos 0 }
@@ -52,6 +49,6 @@ seen_of (R.Refused f) = seen (Sheets.number_of f) 0 0 0 origin origin 0
 abbrev pub sheet_of : PlainSheet → Sheet
 sheet_of s = record { k = s.k; u = point_of s.u; t = point_of s.t; ticks = s.ticks }
 
-abbrev pub put_of : Writing → Wrote
-put_of (W.Wrote n) = wrote 0 n
-put_of (W.Refused f) = wrote (Sheets.number_of f) 0
+abbrev pub put_of : Result ℕ SheetRefusal.Refusal → Wrote
+put_of (Ok n) = wrote 0 n
+put_of (Err f) = wrote (Sheets.number_of f) 0

@@ -3,10 +3,10 @@ ghost use Rattle.std.specs.Prelude.{◌≡◌, false};
 ghost use Rattle.refusals.specs.Refusals.{beyond_range};
 ghost use Rattle.library_calls.specs.Alone.{wide_of, entry_place, line_place, interval_of, handedAs};
 
-use entry::Place;
 use integers_wide::Wide;
 use library_numbers::Four;
 use line::Interval;
+use ring::Point;
 
 // hi·2^64 + lo, a number of two words.
 #[repr(C)]
@@ -69,13 +69,13 @@ pub fn refused() -> Handed
     }
 }
 
-pub fn entry_place(after: u8, v: Four) -> Place
+pub fn entry_place(after: u8, v: Four) -> Option<Point>
     ensures { result ≡ entry_place after v }
 {
     if after == 0 {
-        return Place::Beginning;
+        return None;
     }
-    Place::After(library_numbers::point_of(v))
+    Some(library_numbers::point_of(v))
 }
 
 pub fn line_place(after: u8, a: i32, b: i32) -> line::Place

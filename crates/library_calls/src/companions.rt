@@ -4,7 +4,7 @@ ghost use Rattle.library_calls.specs.Companions.{tariff_of, costs, ticks_of, wro
 
 use gate_tariff::Tariff;
 use library_numbers::Four;
-use pattern_sheet::{Reading, Sheet, Writing};
+use pattern_sheet::{Reading, Sheet};
 use ring::Point;
 
 // The prices of the letters, in thousandths of a tick.
@@ -78,12 +78,12 @@ pub fn costs(number: u8, fits: bool, ticks: u32) -> Ticks
     }
 }
 
-pub fn ticks_of(a: gate_tariff::Answer) -> Ticks
+pub fn ticks_of(a: Result<(u32, bool), gate_tariff::Refusal>) -> Ticks
     ensures { result ≡ ticks_of a }
 {
     match a {
-        gate_tariff::Answer::Costs(n, fits) => costs(0, fits, n),
-        gate_tariff::Answer::Refused(f) => costs(f.number(), false, 0),
+        Ok((n, fits)) => costs(0, fits, n),
+        Err(f) => costs(f.number(), false, 0),
     }
 }
 
@@ -96,12 +96,12 @@ pub fn written(number: u8, count: usize) -> Wrote
     }
 }
 
-pub fn wrote_of(a: gate_qasm::Answer) -> Wrote
+pub fn wrote_of(a: Result<usize, gate_qasm::Refusal>) -> Wrote
     ensures { result ≡ wrote_of a }
 {
     match a {
-        gate_qasm::Answer::Wrote(n) => written(0, n),
-        gate_qasm::Answer::Refused(f) => written(f.number(), 0),
+        Ok(n) => written(0, n),
+        Err(f) => written(f.number(), 0),
     }
 }
 
@@ -149,11 +149,11 @@ pub fn sheet_of(s: PlainSheet) -> Sheet
     }
 }
 
-pub fn put_of(w: Writing) -> Wrote
+pub fn put_of(w: Result<usize, pattern_sheet::Refusal>) -> Wrote
     ensures { result ≡ put_of w }
 {
     match w {
-        Writing::Wrote(n) => written(0, n),
-        Writing::Refused(f) => written(f.number(), 0),
+        Ok(n) => written(0, n),
+        Err(f) => written(f.number(), 0),
     }
 }

@@ -1,7 +1,7 @@
 -- What plain numbers mean as the bench's session: SPEC, "Library". Every value of the struct has a meaning. And an answer as plain numbers.
-use Rattle.std.specs.Prelude.{◌≡◌, Bool, true, false, not, cond, List, [], ◌∷◌, map, ℕ, eqb, ℤ, pos}
+use Rattle.std.specs.Prelude.{◌≡◌, Bool, true, false, not, cond, List, [], ◌∷◌, map, ℕ, eqb, ℤ, pos, Option, Some, None}
 use Rattle.std.proofs.Math.Path.{refl}
-use Rattle.std.proofs.Common.{sym, ap, ap₂, ◌∙◌}
+use Rattle.std.proofs.Common.{ap, ◌∙◌}
 use borrow.Author.Tests.{ne_eqb}
 use Rattle.ring.specs.declared.Point.{Point}
 use Rattle.operator.specs.declared.Operator.{Operator}
@@ -10,8 +10,6 @@ use Rattle.region.specs.declared.Ellipse.{Ellipse}
 use Rattle.region.specs.declared.Slice.{Slice}
 use Rattle.region.specs.declared.Region.{Region}
 use Rattle.region.specs.declared.Region.TheVariants as R
-use Rattle.walk_list.specs.declared.Spot.{Spot}
-use Rattle.walk_list.specs.declared.Spot.TheVariants as P
 use Rattle.session_model.specs.Session.{refused, taken, handed, done, says, best}
 use Rattle.session_model.specs.Session as Model
 use Rattle.integers_wide.specs.declared.Size.{Size}
@@ -57,8 +55,8 @@ slice_of s = record { n = s.n; zx = s.zx; zy = s.zy; w = s.w }
 unfoldable pub region_of : Shape → Region
 region_of s = cond (eqb s.kind 2) (R.Rectangle (rectangle_of s)) (cond (eqb s.kind 3) (R.Ellipse (ellipse_of s)) (R.Slice (slice_of s)))
 
-unfoldable pub spot_of : ℕ → Point → Spot
-spot_of e v = cond (eqb e 0) (P.At v) P.Ended
+unfoldable pub spot_of : ℕ → Point → Option Point
+spot_of e v = cond (eqb e 0) (Some v) None
 
 abbrev pub course_of : State → Course
 course_of s = record {

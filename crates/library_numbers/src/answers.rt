@@ -9,25 +9,18 @@ use ring::Point;
 use session_stages::Answer;
 use session_tallying::Outcome;
 
-const ORIGIN: Four = Four {
-    a: 0,
-    b: 0,
-    c: 0,
-    d: 0,
-};
-
 // An answer of one number or flag.
 pub fn told(kind: u8, number: u8, yes: bool, count: usize) -> Reply
     ensures { result ≡ told kind number yes count }
 {
     Reply {
-        kind: kind,
-        number: number,
+        kind,
+        number,
         flag: flag(yes),
         scale: 0,
-        count: count,
-        u: ORIGIN,
-        t: ORIGIN,
+        count,
+        u: Four::NONE,
+        t: Four::NONE,
     }
 }
 
@@ -46,7 +39,7 @@ fn pattern_reply(k: u8, u: Point, t: Point) -> Reply
     }
 }
 
-// The numbers of an answer.
+// The numbers of an answer: the kinds are those of the header for C.
 pub fn reply_of(a: Answer) -> Reply
     ensures { result ≡ reply_of (answer_of [] a) }
 {
@@ -64,12 +57,8 @@ pub fn reply_of(a: Answer) -> Reply
 pub fn leaving(o: Outcome) -> Left
     ensures { LeftOf o result }
 {
-    let s = o.session;
-    let a = o.answer;
-    let session = state_of(s);
-    let reply = reply_of(a);
     Left {
-        session: session,
-        reply: reply,
+        session: state_of(o.session),
+        reply: reply_of(o.answer),
     }
 }

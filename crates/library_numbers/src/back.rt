@@ -9,7 +9,6 @@ use region::{Ellipse, Job, Rectangle, Region, Slice};
 use ring::Point;
 use session_stages::{Course, Parts, Session, Stage};
 use session_tallying::Tallied;
-use walk::Spot;
 
 // Whether a flag is set: it is not 0.
 pub fn is_set(x: u8) -> bool
@@ -87,49 +86,39 @@ fn slice_of(s: Shape) -> Slice
 pub fn region_of(s: Shape) -> Region
     ensures { result ≡ region_of s }
 {
-    if s.kind == 2 {
-        return Region::Rectangle(rectangle_of(s));
+    match s.kind {
+        2 => Region::Rectangle(rectangle_of(s)),
+        3 => Region::Ellipse(ellipse_of(s)),
+        _ => Region::Slice(slice_of(s)),
     }
-    if s.kind == 3 {
-        return Region::Ellipse(ellipse_of(s));
-    }
-    Region::Slice(slice_of(s))
 }
 
 // The place of a walk.
-pub fn spot_of(ended: u8, v: Point) -> Spot
+pub fn spot_of(ended: u8, v: Point) -> Option<Point>
     ensures { result ≡ spot_of ended v }
 {
-    if ended == 0 {
-        return Spot::At(v);
-    }
-    Spot::Ended
+    if ended == 0 { Some(v) } else { None }
 }
 
 fn course_of(s: State) -> Course
     ensures { result ≡ course_of s }
 {
-    let a = region_of(s.a);
-    let b = region_of(s.b);
-    let spot = spot_of(s.ended, point_of(s.spot));
-    let operator = operator_of(s.operator);
     Course {
         job: Job {
             k: s.k,
             all: is_set(s.all),
-            a: a,
-            b: b,
+            a: region_of(s.a),
+            b: region_of(s.b),
         },
-        spot: spot,
-        operator: operator,
+        spot: spot_of(s.ended, point_of(s.spot)),
+        operator: operator_of(s.operator),
     }
 }
 
 fn stage_of(s: State) -> Stage
     ensures { result ≡ stage_of s }
 {
-    let g = s.stage;
-    match g {
+    match s.stage {
         1 => Stage::Early(Parts::Scaled(s.k)),
         2 => Stage::Early(Parts::Selected(s.k, is_set(s.all))),
         3 => Stage::Early(Parts::First(s.k, is_set(s.all), region_of(s.a))),
@@ -142,10 +131,8 @@ fn stage_of(s: State) -> Stage
 pub fn session_of(s: State) -> Tallied
     ensures { result ≡ bench_of s }
 {
-    let stage = stage_of(s);
-    let tally = tally_of(s.tally);
     Tallied {
-        session: Session { stage: stage },
-        tally: tally,
+        session: Session { stage: stage_of(s) },
+        tally: tally_of(s.tally),
     }
 }

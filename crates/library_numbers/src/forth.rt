@@ -10,49 +10,12 @@ use region::{Ellipse, Rectangle, Region, Slice};
 use ring::Point;
 use session_stages::{Course, Parts, Stage};
 use session_tallying::Tallied;
-use walk::Spot;
 
-const ORIGIN: Four = Four {
-    a: 0,
-    b: 0,
-    c: 0,
-    d: 0,
-};
-
-const NO_SHAPE: Shape = Shape {
-    kind: 0,
-    n: 0,
-    xl: 0,
-    xh: 0,
-    yl: 0,
-    yh: 0,
-    cx: 0,
-    cy: 0,
-    p: 0,
-    q: 0,
-    r: 0,
-    s: 0,
-    zx: 0,
-    zy: 0,
-    w: 0,
-};
-
-const NO_OPERATOR: Eight = Eight {
-    a: 0,
-    b: 0,
-    c: 0,
-    d: 0,
-    ai: 0,
-    bi: 0,
-    ci: 0,
-    di: 0,
-};
-
-// 1 for yes.
+// 1 for yes: C has no `bool` of Rattle's, and a flag there is a byte.
 pub fn flag(x: bool) -> u8
     ensures { result ≡ bit x }
 {
-    if x { 1 } else { 0 }
+    u8::from(x)
 }
 
 fn of_rectangle(x: Rectangle) -> Shape
@@ -65,15 +28,7 @@ fn of_rectangle(x: Rectangle) -> Shape
         xh: x.xh,
         yl: x.yl,
         yh: x.yh,
-        cx: 0,
-        cy: 0,
-        p: 0,
-        q: 0,
-        r: 0,
-        s: 0,
-        zx: 0,
-        zy: 0,
-        w: 0,
+        ..Shape::NONE
     }
 }
 
@@ -83,19 +38,13 @@ fn of_ellipse(x: Ellipse) -> Shape
     Shape {
         kind: 3,
         n: x.n,
-        xl: 0,
-        xh: 0,
-        yl: 0,
-        yh: 0,
         cx: x.cx,
         cy: x.cy,
         p: x.p,
         q: x.q,
         r: x.r,
         s: x.s,
-        zx: 0,
-        zy: 0,
-        w: 0,
+        ..Shape::NONE
     }
 }
 
@@ -105,19 +54,10 @@ fn of_slice(x: Slice) -> Shape
     Shape {
         kind: 5,
         n: x.n,
-        xl: 0,
-        xh: 0,
-        yl: 0,
-        yh: 0,
-        cx: 0,
-        cy: 0,
-        p: 0,
-        q: 0,
-        r: 0,
-        s: 0,
         zx: x.zx,
         zy: x.zy,
         w: x.w,
+        ..Shape::NONE
     }
 }
 
@@ -168,17 +108,17 @@ pub fn eight_of(g: Operator) -> Eight
 }
 
 // The numbers of a place.
-pub fn spotted(p: Spot) -> Place
+pub fn spotted(p: Option<Point>) -> Place
     ensures { spot_of result.ended (point_of result.v) ≡ p }
 {
     match p {
-        Spot::At(v) => Place {
+        Some(v) => Place {
             ended: 0,
             v: four_of(v),
         },
-        Spot::Ended => Place {
+        None => Place {
             ended: 1,
-            v: ORIGIN,
+            v: Four::NONE,
         },
     }
 }
@@ -187,9 +127,9 @@ fn early(p: Parts, counts: Counts) -> State
     ensures { (stage_of result ≡ stages.Early p) × (result.tally ≡ counts) }
 {
     match p {
-        Parts::Nothing => part(0, 0, false, NO_SHAPE, counts),
-        Parts::Scaled(k) => part(1, k, false, NO_SHAPE, counts),
-        Parts::Selected(k, all) => part(2, k, all, NO_SHAPE, counts),
+        Parts::Nothing => part(0, 0, false, Shape::NONE, counts),
+        Parts::Scaled(k) => part(1, k, false, Shape::NONE, counts),
+        Parts::Selected(k, all) => part(2, k, all, Shape::NONE, counts),
         Parts::First(k, all, a) => part(3, k, all, shape_of(a), counts),
     }
 }
@@ -199,14 +139,14 @@ fn part(stage: u8, k: u8, all: bool, a: Shape, counts: Counts) -> State
     ensures { (result.stage ≡ stage) × (result.k ≡ k) × (is_set result.all ≡ all) × (result.a ≡ a) × (result.tally ≡ counts) }
 {
     State {
-        stage: stage,
-        k: k,
+        stage,
+        k,
         all: flag(all),
         ended: 0,
-        a: a,
-        b: NO_SHAPE,
-        spot: ORIGIN,
-        operator: NO_OPERATOR,
+        a,
+        b: Shape::NONE,
+        spot: Four::NONE,
+        operator: Eight::NONE,
         tally: counts,
     }
 }
@@ -214,24 +154,16 @@ fn part(stage: u8, k: u8, all: bool, a: Shape, counts: Counts) -> State
 fn walking(c: Course, counts: Counts) -> State
     ensures { (stage_of result ≡ stages.Walking c) × (result.tally ≡ counts) }
 {
-    let job = c.job;
-    let operator = eight_of(c.operator);
-    let spot = c.spot;
-    let p = spotted(spot);
-    let v = p.v;
-    let first = job.a;
-    let second = job.b;
-    let a = shape_of(first);
-    let b = shape_of(second);
+    let p = spotted(c.spot);
     State {
         stage: 4,
-        k: job.k,
-        all: flag(job.all),
+        k: c.job.k,
+        all: flag(c.job.all),
         ended: p.ended,
-        a: a,
-        b: b,
-        spot: v,
-        operator: operator,
+        a: shape_of(c.job.a),
+        b: shape_of(c.job.b),
+        spot: p.v,
+        operator: eight_of(c.operator),
         tally: counts,
     }
 }
@@ -240,11 +172,8 @@ fn walking(c: Course, counts: Counts) -> State
 pub fn state_of(b: Tallied) -> State
     ensures { bench_of result ≡ b }
 {
-    let s = b.session;
-    let t = b.tally;
-    let counts = counts_of(t);
-    let g = s.stage;
-    match g {
+    let counts = counts_of(b.tally);
+    match b.session.stage {
         Stage::Early(p) => early(p, counts),
         Stage::Walking(c) => walking(c, counts),
     }

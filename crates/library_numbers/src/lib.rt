@@ -22,6 +22,16 @@ pub struct Four {
     pub d: i32,
 }
 
+impl Four {
+    // What stands where there is no point.
+    pub const NONE: Four = Four {
+        a: 0,
+        b: 0,
+        c: 0,
+        d: 0,
+    };
+}
+
 // An operator.
 #[repr(C)]
 #[derive(Clone, Copy)]
@@ -34,6 +44,20 @@ pub struct Eight {
     pub bi: i16,
     pub ci: i16,
     pub di: i16,
+}
+
+impl Eight {
+    // What stands where there is no operator.
+    pub const NONE: Eight = Eight {
+        a: 0,
+        b: 0,
+        c: 0,
+        d: 0,
+        ai: 0,
+        bi: 0,
+        ci: 0,
+        di: 0,
+    };
 }
 
 // A region. Kind 2 is a rectangle, 3 an ellipse, any other a slice; the fields of the other two do not count.
@@ -55,6 +79,27 @@ pub struct Shape {
     pub zx: i16,
     pub zy: i16,
     pub w: i32,
+}
+
+impl Shape {
+    // What stands where there is no region.
+    pub const NONE: Shape = Shape {
+        kind: 0,
+        n: 0,
+        xl: 0,
+        xh: 0,
+        yl: 0,
+        yh: 0,
+        cx: 0,
+        cy: 0,
+        p: 0,
+        q: 0,
+        r: 0,
+        s: 0,
+        zx: 0,
+        zy: 0,
+        w: 0,
+    };
 }
 
 // hi·2^64 + lo.

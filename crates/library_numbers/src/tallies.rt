@@ -10,15 +10,7 @@ use session_tally::Tally;
 pub(crate) fn tally_of(c: Counts) -> Tally
     ensures { result ≡ tally_of c }
 {
-    let from = c.counts;
-    let none = Size { hi: 0, lo: 0 };
-    let mut counts = [none; 21];
-    let mut e = 0;
-    while e < 21 {
-        let n = from[e];
-        counts[e] = Size { hi: n.hi, lo: n.lo };
-        e += 1;
-    }
+    let counts = c.counts.map(|n| Size { hi: n.hi, lo: n.lo });
     Tally { counts }
 }
 
@@ -26,14 +18,6 @@ pub(crate) fn tally_of(c: Counts) -> Tally
 pub fn counts_of(t: Tally) -> Counts
     ensures { result ≡ counts_of t }
 {
-    let from = t.counts;
-    let none = Count { hi: 0, lo: 0 };
-    let mut counts = [none; 21];
-    let mut e = 0;
-    while e < 21 {
-        let n = from[e];
-        counts[e] = Count { hi: n.hi, lo: n.lo };
-        e += 1;
-    }
+    let counts = t.counts.map(|n| Count { hi: n.hi, lo: n.lo });
     Counts { counts }
 }

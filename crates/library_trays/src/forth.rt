@@ -7,9 +7,9 @@ ghost use Rattle.library_trays.specs.Numbers.{targets_of, meant, reply_of};
 
 use crate::TrayState;
 use library_numbers::{Four, Reply, Shape};
+use ring::Point;
 use tray::{Answer, Session, Stage};
 use tray_list::{Target, Tray};
-use walk::Spot;
 
 const ORIGIN: Four = Four {
     a: 0,
@@ -68,7 +68,7 @@ fn without() -> TrayState
 }
 
 // A tray, and where its walk stands.
-fn holding(t: Tray, p: Spot) -> TrayState
+fn holding(t: Tray, p: Option<Point>) -> TrayState
     ensures { meant result ≡ walking t (spot_of p) }
 {
     let targets = t.targets;

@@ -10,8 +10,8 @@ ghost use Rattle.line.specs.Given.{Given};
 
 mod search;
 
+use line_steps::Digits;
 pub use line_steps::Interval;
-use line_steps::{Digits, Spot};
 
 // Coordinates of a pair, and ends of an interval, lie within ±10,000.
 const HIGHEST: i32 = line_steps::BOUND as i32;
@@ -47,21 +47,13 @@ pub fn pairs(first: Interval, second: Interval, place: Place, out: &mut [i32]) -
 fn in_range(i: Interval) -> bool
     ensures { result ≡ in_range i }
 {
-    if within(1, 100, i.n) {
-        if within(LOWEST, HIGHEST, i.lo) {
-            return within(LOWEST, HIGHEST, i.hi);
-        }
-    }
-    false
+    within(1, 100, i.n) && (within(LOWEST, HIGHEST, i.lo) && within(LOWEST, HIGHEST, i.hi))
 }
 
 fn within(lo: i32, hi: i32, z: i32) -> bool
     ensures { result ≡ within lo hi z }
 {
-    if lo <= z {
-        return z <= hi;
-    }
-    false
+    lo <= z && z <= hi
 }
 
 // As many of the pairs from p on as there is space for.
@@ -73,21 +65,22 @@ fn hand_out(first: Interval, second: Interval, p: Digits, out: &mut [i32]) -> An
     let mut k = 0;
     let c = line_steps::reduced(first, second);
     let mut f = line_steps::onward(c, p);
+    // A while: where the pairs end before the space, k is how many there are.
     while k < n {
         match f {
-            Spot::At(q) => {
+            Some(q) => {
                 put(out, 2 * k, q);
                 k += 1;
                 f = line_steps::next(c, Digits { a: q.a, b: q.b + 1 });
             }
-            Spot::Ended => {
+            None => {
                 break;
             }
         }
     }
     match f {
-        Spot::At(_) => Answer::Handed(k, false),
-        Spot::Ended => Answer::Handed(k, true),
+        Some(_) => Answer::Handed(k, false),
+        None => Answer::Handed(k, true),
     }
 }
 

@@ -37,10 +37,7 @@ fn bounded(s: Band, t: Band, z: RootTwo, w: RootTwo) -> bool
     requires { Small s × Small t × Sized (2 ^ 41) (2 ^ 41) z × Sized (2 ^ 41) (2 ^ 41) w }
     ensures { result ≡ bounded s t z w }
 {
-    if above(s, z) {
-        return below(t, w);
-    }
-    false
+    above(s, z) && below(t, w)
 }
 
 // The coordinate with the digit t, where the digit h is that of 0.
@@ -87,6 +84,7 @@ pub fn least(first: Band, second: Band, h: u64, x: u64, y: u64, top: u64) -> u64
 {
     let mut lo = y;
     let mut hi = top;
+    // A while: a bisection, whose steps are not one.
     while lo < hi {
         let mid = lo + (hi - lo) / 2;
         if lower(first, second, h, x, mid) {
@@ -105,6 +103,7 @@ pub fn first(s: Band, h: u64, top: u64) -> u64
 {
     let mut lo = 0;
     let mut hi = top;
+    // A while, as in `least`.
     while lo < hi {
         let mid = lo + (hi - lo) / 2;
         if above(

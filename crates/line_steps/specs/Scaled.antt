@@ -1,5 +1,5 @@
 -- The problem after the shift and the scaling, the way back from its pairs, and the first pair from a place on.
-use Rattle.std.specs.Prelude.{◌≡◌, refl, Bool, true, false, ◌⊎◌, ℕ, ◌^◌, ◌≤◌, ◌<◌, pos, ◌*ℤ◌}
+use Rattle.std.specs.Prelude.{◌≡◌, refl, Bool, true, false, ◌⊎◌, ℕ, ◌^◌, ◌≤◌, ◌<◌, pos, ◌*ℤ◌, Option, Some, None}
 use Rattle.integers.specs.Difference.{◌≺◌}
 use Rattle.ring.specs.declared.RootTwo.{RootTwo}
 use Rattle.ring.specs.RootTwo.{◌⊞◌, ◌⊠◌, conj, num}
@@ -8,8 +8,6 @@ use Rattle.line_rows.specs.Row.{at}
 use Rattle.line_rows.specs.Steps.{solved, shift_of, times_of, Even}
 use Rattle.line_steps.specs.declared.Digits.{Digits}
 use Rattle.line_steps.specs.declared.Scaled.{Scaled}
-use Rattle.line_steps.specs.declared.Spot.{Spot}
-use Rattle.line_steps.specs.declared.Spot.TheVariants.{At, Ended}
 use Rattle.line_steps.specs.Line.{span, coordinate}
 use Rattle.line_steps.specs.Narrow.{Wide, NotBefore, image, origin, first_of, second_of, rows_in}
 use Rattle.line_steps.specs.Sized.{Sized, whole, size_of_unit}
@@ -101,6 +99,6 @@ pub record FoundAt (c : Scaled) (p q : Digits) : Type 0 where
   pub from : NotBefore (point_of p) (point_of q)
   pub none : (z : RootTwo) → solved c.f c.g z ≡ true → NotBefore (point_of p) (back_of c z) → Before (back_of c z) (point_of q) → ⊥
 
-abbrev pub Found : Scaled → Digits → Spot → Type 0
-Found c p (At q) = FoundAt c p q
-Found c p Ended = (z : RootTwo) → solved c.f c.g z ≡ true → NotBefore (point_of p) (back_of c z) → ⊥
+abbrev pub Found : Scaled → Digits → Option Digits → Type 0
+Found c p (Some q) = FoundAt c p q
+Found c p None = (z : RootTwo) → solved c.f c.g z ≡ true → NotBefore (point_of p) (back_of c z) → ⊥

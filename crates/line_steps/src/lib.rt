@@ -33,13 +33,6 @@ pub struct Digits {
     pub b: u64,
 }
 
-// Where the next pair is.
-#[derive(Clone, Copy)]
-pub enum Spot {
-    At(Digits),
-    Ended,
-}
-
 // The problem after the shift and the scaling: t = J − α₀•, f = λ^n (I − α₀), g = (λ•)^n (J − α₀•), the rows a_min to a_max, and the digit of 0 there. A pair is λ^−n times a pair
 // of f and g, plus α₀, and the conjugate of that where the sides are exchanged. Where no side is thin, α₀ is 0 and λ^n is 1.
 #[derive(Clone, Copy)]

@@ -10,7 +10,7 @@ ghost use Rattle.line_steps.specs.Sized.{Sized, Ends, whole, shifted, scaled, si
 ghost use Rattle.line_steps.specs.Scaled.{Near, Before, point_of, back_of, Found};
 ghost use Rattle.line_steps.specs.Walk.{InRow, Ready, Begun};
 
-use crate::{BOUND, Digits, Scaled, Spot, ends, steps};
+use crate::{BOUND, Digits, Scaled, ends, steps};
 use line_rows::Band;
 use ring::RootTwo;
 use ring_surds::{combined, conjugate, product};
@@ -19,7 +19,7 @@ use ring_surds::{combined, conjugate, product};
 const LAST: u64 = 2 * BOUND;
 
 // The first pair from p on, where p may be one: within a row of pairs the next is found by one test.
-pub fn next(c: Scaled, p: Digits) -> Spot
+pub fn next(c: Scaled, p: Digits) -> Option<Digits>
     requires { Ready c × Near p }
     ensures { Found c p result }
 {
@@ -28,7 +28,7 @@ pub fn next(c: Scaled, p: Digits) -> Spot
     let g = c.g;
     if !thin {
         if is_pair(f, g, p) {
-            return Spot::At(p);
+            return Some(p);
         }
     }
     onward(c, p)
@@ -39,14 +39,11 @@ fn is_pair(f: Band, g: Band, p: Digits) -> bool
     requires { Ends scaled f × Ends scaled g × Near p }
     ensures { result ≡ true → solved f g (point_of p) ≡ true }
 {
-    if line_rows::upper(f, g, BOUND, p.a, p.b) {
-        return line_rows::lower(f, g, BOUND, p.a, p.b);
-    }
-    false
+    line_rows::upper(f, g, BOUND, p.a, p.b) && line_rows::lower(f, g, BOUND, p.a, p.b)
 }
 
 // The first pair from p on.
-pub fn onward(c: Scaled, p: Digits) -> Spot
+pub fn onward(c: Scaled, p: Digits) -> Option<Digits>
     requires { Ready c × Near p }
     ensures { Found c p result }
 {
@@ -97,7 +94,7 @@ fn reach(m: i64, p: i64, t: u64) -> i64
 }
 
 // Internal step 7, row by row from the digits q on: the first pair that is not before p.
-fn walk(c: Scaled, p: Digits, q: Digits) -> Spot
+fn walk(c: Scaled, p: Digits, q: Digits) -> Option<Digits>
     requires { Ready c × Near p × Begun c p q }
     ensures { Found c p result }
 {
@@ -108,6 +105,7 @@ fn walk(c: Scaled, p: Digits, q: Digits) -> Spot
     let top = 2 * half;
     let mut x = q.a;
     let mut y = q.b;
+    // A while: a step goes on in its row, or to the next one.
     while x < top {
         let r = in_row(f, g, half, x, y);
         if r < top {
@@ -115,7 +113,7 @@ fn walk(c: Scaled, p: Digits, q: Digits) -> Spot
             if is_before(z, p) {
                 y = r + 1;
             } else {
-                return Spot::At(Digits {
+                return Some(Digits {
                     a: ends::past(z.p),
                     b: ends::past(z.q),
                 });
@@ -130,11 +128,11 @@ fn walk(c: Scaled, p: Digits, q: Digits) -> Spot
                     q: 0,
                 },
             ) {
-                return Spot::Ended;
+                return None;
             }
         }
     }
-    Spot::Ended
+    None
 }
 
 // The first digit of b' from y on that has a pair in the row x, or the number of digits.

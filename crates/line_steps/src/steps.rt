@@ -43,13 +43,11 @@ pub(crate) fn unit(s: Band, thin: bool) -> RootTwo
     if !thin {
         return power(0);
     }
-    let mut k = 5;
-    while 0 < k {
+    for k in (1..=5).rev() {
         let u = power(k);
         if is_within(scale(s, conjugate(u)), 2) {
             return u;
         }
-        k -= 1;
     }
     power(0)
 }

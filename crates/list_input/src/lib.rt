@@ -33,6 +33,7 @@ fn records(bytes: &[u8]) -> Input
 {
     let mut s = session::start();
     let mut at = 0;
+    // A while: the step is not one, it is past the record.
     while at < bytes.len() {
         let o = session::read(s, &bytes[at..]);
         let a = o.answer;

@@ -28,15 +28,13 @@ pub fn put_points(out: &mut [u8], points: &[i32], n: usize, k: u8) -> usize
     let mut head = [0u8; 36];
     let mut length = put_head(&mut head, last);
     let mut at = 0;
-    let mut i = 0;
-    while i < n {
+    for i in 0..n {
         let v = ring_points::point_at(points, i);
         if begins_row(last, v) {
             length = put_head(&mut head, v);
         }
         at = put_point(out, at, &head[..length], v, k);
         last = v;
-        i += 1;
     }
     at
 }
@@ -45,14 +43,7 @@ pub fn put_points(out: &mut [u8], points: &[i32], n: usize, k: u8) -> usize
 fn begins_row(u: Point, v: Point) -> bool
     ensures { result ≡ false → head_text u ≡ head_text v }
 {
-    if u.a == v.a {
-        if u.b == v.b {
-            if u.c == v.c {
-                return false;
-            }
-        }
-    }
-    true
+    u.a != v.a || u.b != v.b || u.c != v.c
 }
 
 // `a b c `, and its length.

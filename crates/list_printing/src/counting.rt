@@ -16,6 +16,7 @@ pub(crate) fn count(s: Session) -> Size
     let mut left = s;
     let mut total = Size { hi: 0, lo: 0 };
     let mut more = true;
+    // A while: each page says what is left after it.
     while more {
         let p = count_page(left);
         total = total.plus(p.count as u64);

@@ -40,6 +40,7 @@ fn print_from<R: Print + Eprint + Clock>(rt: &R, from: Output) -> bool
     let mut space = output_buffer();
     let out: &mut [u8] = &mut space;
     let mut o = from;
+    // A while: each piece says what comes after it.
     while !list_output::is_done(o) {
         let p = list_output::next(o, out);
         let n = p.length;

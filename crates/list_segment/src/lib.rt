@@ -13,7 +13,6 @@ ghost use Rattle.list_segment.specs.Printed.{Printed};
 use region::Job;
 use ring::Point;
 use std::time::Clock;
-use walk::Spot;
 
 // No coordinate is less.
 const LEAST: i32 = -2147483648;
@@ -34,6 +33,7 @@ pub fn print<R: Print + Eprint + Clock>(rt: &R, job: Job, lo: i32, hi: i32) -> b
     let out: &mut [u8] = &mut space;
     let mut from = first(lo);
     let mut more = true;
+    // A while: each page says where the next one begins.
     while more {
         let p = page(job, from, hi, out);
         let n = p.length;
@@ -64,7 +64,7 @@ fn page(job: Job, from: Point, hi: i32, out: &mut [u8]) -> Piece
     ensures { Paged job hi from result out.old out.new }
 {
     let mut points = point_buffer();
-    let h = walk::hand_out(job, Spot::At(from), &mut points);
+    let h = walk::hand_out(job, Some(from), &mut points);
     let n = cut(&points, h.count, hi);
     let length = list_lines::put_points(out, &points, n, job.k);
     if n < h.count {
@@ -72,12 +72,12 @@ fn page(job: Job, from: Point, hi: i32, out: &mut [u8]) -> Piece
     }
     let s = h.spot;
     match s {
-        Spot::At(v) => Piece {
+        Some(v) => Piece {
             from: v,
             more: true,
             length,
         },
-        Spot::Ended => last(from, length),
+        None => last(from, length),
     }
 }
 

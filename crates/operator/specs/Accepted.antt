@@ -1,12 +1,12 @@
 -- What the test says of an operator that it accepts: the size of its numbers, its parity, its determinant.
-use Rattle.std.specs.Prelude.{◌≡◌, refl, ◌⊎◌, Bool, true, false, cond, ◌||◌, ℕ, zero, suc, ◌≤◌, T, eqb, ℤ, pos, negsuc, neg_ℤ, nat_abs, ◌*ℤ◌}
+use Rattle.std.specs.Prelude.{◌≡◌, refl, ◌⊎◌, Bool, true, false, cond, ◌||◌, ℕ, zero, suc, ◌≤◌, T, eqb, ℤ, pos, negsuc, neg_ℤ, nat_abs, ◌*ℤ◌, Ok, Err}
 use Rattle.std.proofs.Common.{sym, ◌∙◌, ap, subst, inl, inr, zero-le, arith, SFits, to_z, of_z, to_z-of_z, leb-true, le-leb, eq-eqb, ne_eqb}
 use Rattle.std.specs.Int.Signed.{le_z}
 use Rattle.std.specs.Int.{Width}
 use Rattle.integers.specs.lemmas.Booleans.{both_true}
 use Rattle.integers.specs.lemmas.Order.{≼-antisym}
 use Rattle.operator.specs.declared.Operator.{Operator}
-use Rattle.operator.specs.declared.Check.TheVariants.{Special, OutOfRange, OddParity, NotSpecial}
+use Rattle.operator.specs.declared.Refusal.TheVariants.{OutOfRange, OddParity, NotSpecial}
 use Rattle.operator.specs.Operator.{within, all_within, in_range, even_parity, det_whole, det_root, equal_z, special, check_of}
 
 either_true : (x y : Bool) → x || y ≡ true → (x ≡ true) ⊎ (y ≡ true)
@@ -87,14 +87,14 @@ pub record Accepted (g : Operator) : Type 0 where
   pub unit : det_whole g *ℤ det_whole g ≡ pos 1
   pub zero : det_root g ≡ pos 0
 
-pub accepted : (g : Operator) → check_of g ≡ Special → Accepted g
+pub accepted : (g : Operator) → check_of g ≡ (Ok (tt {0})) → Accepted g
 unfolding check_of in_range special
 accepted g h = go (in_range g) (even_parity g) (special g) refl refl refl h
   where
     unit : (d : ℤ) → equal_z d (pos 1) || equal_z d (negsuc 0) ≡ true → d *ℤ d ≡ pos 1
     unit d h = elim (either_true (equal_z d (pos 1)) (equal_z d (negsuc 0)) h) [ inl e ↦ rw (equal-true d (pos 1) e) refl | inr e ↦ rw (equal-true d (negsuc 0) e) refl ]
 
-    go : (r p s : Bool) → in_range g ≡ r → even_parity g ≡ p → special g ≡ s → cond r (cond p (cond s Special NotSpecial) OddParity) OutOfRange ≡ Special → Accepted g
+    go : (r p s : Bool) → in_range g ≡ r → even_parity g ≡ p → special g ≡ s → cond r (cond p (cond s (Ok (tt {0})) (Err NotSpecial)) (Err OddParity)) (Err OutOfRange) ≡ (Ok (tt {0})) → Accepted g
     go true true true e f k h =
         let u = both_true (equal_z (det_whole g) (pos 1) || equal_z (det_whole g) (negsuc 0)) (equal_z (det_root g) (pos 0)) k in
         record { small = within-small 100 g e; even = f; unit = unit (det_whole g) u.0; zero = equal-true (det_root g) (pos 0) u.1 }

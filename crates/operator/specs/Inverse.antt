@@ -1,12 +1,9 @@
 -- The inverse of a special grid operator, and the composition of two operators: SPEC, "Operators"; the Note, equations 49 to 51.
-use Rattle.std.specs.Prelude.{◌≡◌, refl, ℕ, ℤ, neg_ℤ, ◌+ℤ◌, ◌-ℤ◌, ◌*ℤ◌}
+use Rattle.operator.specs.declared.Refusal.{Refusal}
+use Rattle.std.specs.Prelude.{◌≡◌, refl, ℕ, ℤ, neg_ℤ, ◌+ℤ◌, ◌-ℤ◌, ◌*ℤ◌, Result, Ok, Err}
 use Rattle.std.proofs.Common.{◌∙◌, ap}
 use Rattle.integers.specs.Parity.{half}
 use Rattle.operator.specs.declared.Operator.{Operator}
-use Rattle.operator.specs.declared.Check.{Check}
-use Rattle.operator.specs.declared.Check.TheVariants.{Special, OutOfRange, OddParity, NotSpecial}
-use Rattle.operator.specs.declared.Inverse.{Inverse}
-use Rattle.operator.specs.declared.Inverse.TheVariants.{Operator as Undo, Refused}
 use Rattle.ring.specs.declared.Point.{Point}
 use Rattle.operator.specs.Operator.{refusal, check_of, refusal_of, det_whole, image_of}
 
@@ -27,33 +24,29 @@ adjugate g = record {
 unfoldable pub times : ℤ → Operator → Operator
 times k g = record { a = k *ℤ g.a; b = k *ℤ g.b; c = k *ℤ g.c; d = k *ℤ g.d; ai = k *ℤ g.ai; bi = k *ℤ g.bi; ci = k *ℤ g.ci; di = k *ℤ g.di }
 
-abbrev pub answer : Check → Operator → Inverse
-answer Special h = Undo h
-answer OutOfRange h = Refused OutOfRange
-answer OddParity h = Refused OddParity
-answer NotSpecial h = Refused NotSpecial
+abbrev pub answer : Result Unit Refusal → Operator → Result Operator Refusal
+answer (Ok _) h = Ok h
+answer (Err why) h = Err why
 
 -- the inverse of an operator that passes the test: for determinant −1 all is times −1, so all is times the determinant
-unfoldable pub inverse_of : Operator → Inverse
+unfoldable pub inverse_of : Operator → Result Operator Refusal
 inverse_of g = answer (check_of g) (times (det_whole g) (adjugate g))
 
 -- the number of each case (SPEC, "Refusals"): 0 for an inverse, else the refusal of the operator
-abbrev pub number : Inverse → ℕ
-number (Undo h) = 0
-number (Refused c) = refusal c
+abbrev pub number : Result Operator Refusal → ℕ
+number (Ok h) = 0
+number (Err why) = refusal (Err why)
 
 -- an answer: the case, and its number, which is that of the operator's test
-pub record Inverts (g : Operator) (r : Inverse) : Type 0 where
+pub record Inverts (g : Operator) (r : Result Operator Refusal) : Type 0 where
   pub inverse : r ≡ inverse_of g
   pub value : number r ≡ refusal_of g
 
-answer-number : (c : Check) (h : Operator) → number (answer c h) ≡ refusal c
-answer-number Special h = refl
-answer-number OutOfRange h = refl
-answer-number OddParity h = refl
-answer-number NotSpecial h = refl
+answer-number : (c : Result Unit Refusal) (h : Operator) → number (answer c h) ≡ refusal c
+answer-number (Ok _) h = refl
+answer-number (Err why) h = refl
 
-pub inverts : {g : Operator} {r : Inverse} → r ≡ inverse_of g → Inverts g r
+pub inverts : {g : Operator} {r : Result Operator Refusal} → r ≡ inverse_of g → Inverts g r
 unfolding inverse_of
 inverts {g} e = record { inverse = e; value = ap number e ∙ answer-number (check_of g) (times (det_whole g) (adjugate g)) }
 

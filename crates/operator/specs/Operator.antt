@@ -1,5 +1,6 @@
 -- Grid operators: SPEC, "Operators"; the Note, Lemma 3.8 and equations 45 to 48.
-use Rattle.std.specs.Prelude.{◌≡◌, Bool, cond, ◌&&◌, ◌||◌, ℕ, ℤ, pos, negsuc, neg_ℤ, ◌+ℤ◌, ◌-ℤ◌, ◌*ℤ◌}
+use Rattle.operator.specs.declared.Refusal.{Refusal}
+use Rattle.std.specs.Prelude.{◌≡◌, Bool, cond, ◌&&◌, ◌||◌, ℕ, ℤ, pos, negsuc, neg_ℤ, ◌+ℤ◌, ◌-ℤ◌, ◌*ℤ◌, Result, Ok, Err}
 use Rattle.std.proofs.Common.{ap}
 use Rattle.std.specs.Int.Signed.{le_z}
 use Rattle.refusals.specs.Refusals.{beyond_range, odd_parity, not_special}
@@ -7,15 +8,14 @@ use Rattle.integers.specs.Parity.{even, half}
 use Rattle.ring.specs.declared.Point.{Point}
 use Rattle.operator.specs.declared.Operator.{Operator}
 use Rattle.operator.specs.declared.WidePoint.{WidePoint}
-use Rattle.operator.specs.declared.Check.{Check}
-use Rattle.operator.specs.declared.Check.TheVariants.{Special, OutOfRange, OddParity, NotSpecial}
+use Rattle.operator.specs.declared.Refusal.TheVariants.{OutOfRange, OddParity, NotSpecial}
 
 -- the number of each case (SPEC, "Refusals"): 0 is accepted
-abbrev pub refusal : Check → ℕ
-refusal Special = 0
-refusal OutOfRange = beyond_range
-refusal OddParity = odd_parity
-refusal NotSpecial = not_special
+abbrev pub refusal : Result Unit Refusal → ℕ
+refusal (Ok tt) = 0
+refusal (Err OutOfRange) = beyond_range
+refusal (Err OddParity) = odd_parity
+refusal (Err NotSpecial) = not_special
 
 -- the identity: G(1) = 1 and G(i) = i
 abbrev pub identity : Operator
@@ -52,19 +52,19 @@ unfoldable pub special : Operator → Bool
 special g = (equal_z (det_whole g) (pos 1) || equal_z (det_whole g) (negsuc 0)) && equal_z (det_root g) (pos 0)
 
 -- refusals in the order of SPEC, "Operators": 4, then 6 for an odd parity sum, then 7 for an even one that isn't special
-unfoldable pub check_of : Operator → Check
-check_of g = cond (in_range g) (cond (even_parity g) (cond (special g) Special NotSpecial) OddParity) OutOfRange
+unfoldable pub check_of : Operator → Result Unit Refusal
+check_of g = cond (in_range g) (cond (even_parity g) (cond (special g) (Ok tt) (Err NotSpecial)) (Err OddParity)) (Err OutOfRange)
 
 -- the number that the test of an operator comes to
 abbrev pub refusal_of : Operator → ℕ
 refusal_of g = refusal (check_of g)
 
 -- an answer of the test: the case, and its number
-pub record Tests (g : Operator) (r : Check) : Type 0 where
+pub record Tests (g : Operator) (r : Result Unit Refusal) : Type 0 where
   pub check : r ≡ check_of g
   pub value : refusal r ≡ refusal_of g
 
-pub tests : {g : Operator} {r : Check} → r ≡ check_of g → Tests g r
+pub tests : {g : Operator} {r : Result Unit Refusal} → r ≡ check_of g → Tests g r
 tests e = record { check = e; value = ap refusal e }
 
 -- a point of four 64-bit numbers as a point

@@ -8,7 +8,6 @@ ghost use Rattle.operator.specs.Accepted.{Small};
 ghost use Rattle.operator.specs.Bounded.{Near};
 ghost use Rattle.operator.specs.Narrow.{narrowed};
 
-use integers::Narrow;
 use ring::Point;
 
 mod coordinates;
@@ -28,10 +27,9 @@ pub struct Operator {
     pub di: i16,
 }
 
-// What the test of an operator says; its number is that of SPEC, "Refusals", 0 where accepted.
+// Why an operator is refused; its number is that of SPEC, "Refusals".
 #[derive(Clone, Copy)]
-pub enum Check {
-    Special,
+pub enum Refusal {
     OutOfRange,
     OddParity,
     NotSpecial,
@@ -46,38 +44,17 @@ pub struct WidePoint {
     pub d: i64,
 }
 
-// The same point of 32-bit numbers, where all four fit.
-#[derive(Clone, Copy)]
-pub enum Narrowed {
-    Fits(Point),
-    TooWide,
-}
-
-// The inverse of a special operator, or the refusal of one that is not.
-#[derive(Clone, Copy)]
-pub enum Inverse {
-    Operator(Operator),
-    Refused(Check),
-}
-
 impl WidePoint {
     // The point with 32-bit numbers, where all four fit.
-    pub fn narrow(self) -> Narrowed
+    #[tactic(auto, unfolding(crate::specs::Narrow::narrowed))]
+    pub fn narrow(self) -> Option<Point>
         ensures { result ≡ narrowed self }
     {
-        let Narrow::Fits(a) = integers::to_i32(self.a) else {
-            return Narrowed::TooWide;
-        };
-        let Narrow::Fits(b) = integers::to_i32(self.b) else {
-            return Narrowed::TooWide;
-        };
-        let Narrow::Fits(c) = integers::to_i32(self.c) else {
-            return Narrowed::TooWide;
-        };
-        let Narrow::Fits(d) = integers::to_i32(self.d) else {
-            return Narrowed::TooWide;
-        };
-        Narrowed::Fits(Point { a, b, c, d })
+        let a = integers::to_i32(self.a)?;
+        let b = integers::to_i32(self.b)?;
+        let c = integers::to_i32(self.c)?;
+        let d = integers::to_i32(self.d)?;
+        Some(Point { a, b, c, d })
     }
 }
 
@@ -102,19 +79,19 @@ impl Operator {
     }
 
     // The test: ranges, then parity, then the determinant.
-    pub fn check(self) -> Check
+    pub fn check(self) -> Result<(), Refusal>
         ensures { Tests self result }
     {
         if !self.in_range() {
-            return Check::OutOfRange;
+            return Err(Refusal::OutOfRange);
         }
         if !self.is_even() {
-            return Check::OddParity;
+            return Err(Refusal::OddParity);
         }
         if !self.is_special() {
-            return Check::NotSpecial;
+            return Err(Refusal::NotSpecial);
         }
-        Check::Special
+        Ok(())
     }
 
     fn in_range(self) -> bool
@@ -164,16 +141,11 @@ impl Operator {
     }
 
     // The inverse, for determinant 1 and −1: the Note, equations 49 to 51.
-    pub fn inverse(self) -> Inverse
+    pub fn inverse(self) -> Result<Operator, Refusal>
         ensures { Inverts self result }
     {
-        let k = self.check();
-        match k {
-            Check::Special => Inverse::Operator(self.adjugate().times(determinant::whole(self))),
-            Check::OutOfRange => Inverse::Refused(k),
-            Check::OddParity => Inverse::Refused(k),
-            Check::NotSpecial => Inverse::Refused(k),
-        }
+        self.check()?;
+        Ok(self.adjugate().times(determinant::whole(self)))
     }
 
     // The inverse for determinant 1.

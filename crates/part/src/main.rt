@@ -22,23 +22,15 @@ use session::{Session, Stage};
 use std::env::Env;
 use std::io;
 use std::time::Clock;
-use text_numeral::Numeral;
-
-// The arguments LO and HI, or others.
-#[derive(Clone, Copy)]
-enum Ends {
-    Given(i32, i32),
-    Bad,
-}
 
 fn main(rt: HostRuntime) {
     let r = range(&rt);
     match r {
-        Ends::Given(lo, hi) => {
+        Some((lo, hi)) => {
             let mut input = list_printing::input_buffer();
             answer(&rt, &mut input, lo, hi);
         }
-        Ends::Bad => program_usage::say(
+        None => program_usage::say(
             &rt,
             &mut rt.stderr(),
             b"usage: part LO HI < JOB\nThe points of a job with a from LO to HI, one a line.\n",
@@ -46,22 +38,22 @@ fn main(rt: HostRuntime) {
     }
 }
 
-fn range<R: Env>(rt: &R) -> Ends {
+fn range<R: Env>(rt: &R) -> Option<(i32, i32)> {
     if program_usage::has_argument(rt, 3) {
-        return Ends::Bad;
+        return None;
     }
     let l = argument(rt, 1);
     let h = argument(rt, 2);
-    if let Numeral::Value(lo) = l {
-        if let Numeral::Value(hi) = h {
-            return Ends::Given(lo, hi);
+    if let Some(lo) = l {
+        if let Some(hi) = h {
+            return Some((lo, hi));
         }
     }
-    Ends::Bad
+    None
 }
 
 // An argument that is missing or has more than 32 bytes is no number.
-fn argument<R: Env>(rt: &R, i: usize) -> Numeral {
+fn argument<R: Env>(rt: &R, i: usize) -> Option<i32> {
     let mut word = [0u8; 32];
     match rt.arg(i, &mut word) {
         Ok(n) => text_numeral::read(&word[..n]),

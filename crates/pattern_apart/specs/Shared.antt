@@ -1,5 +1,5 @@
 -- What a region and the unit disk share: a slice of the disk, from where the region begins in the slice's direction on, holds it.
-use Rattle.std.specs.Prelude.{◌≡◌, refl, true, [], ◌∷◌, ℕ, suc, ◌≤◌, ℤ, pos, neg_ℤ, nat_abs}
+use Rattle.std.specs.Prelude.{◌≡◌, refl, true, [], ◌∷◌, ℕ, suc, ◌≤◌, pos, neg_ℤ}
 use Rattle.std.proofs.Common.{sym, ◌∙◌, arith}
 use Rattle.integers.specs.lemmas.Ring.{poly, by_ring}
 use Rattle.integers.specs.lemmas.Size.{size-neg}

@@ -4,8 +4,7 @@ ghost use Rattle.region.specs.Region.{accepted};
 ghost use Rattle.region.specs.Reach.{reach_of};
 ghost use Rattle.pattern_apart.specs.Shared.{Shares};
 
-use crate::disk;
-use integers::Narrow;
+use crate::{Way, disk};
 use plane_estimates::near::Signed;
 use plane_estimates::rough;
 use region::{Region, Slice};
@@ -15,28 +14,19 @@ const LONGEST: u64 = 100;
 
 const FARTHEST: u64 = 1000000;
 
-// A direction that a slice may have.
-#[derive(Clone, Copy)]
-struct Way {
-    x: i16,
-    y: i16,
-}
-
 // A region that holds all that a region and the unit disk both hold.
 pub fn shared(r: Region) -> Region
     requires { accepted r ≡ true }
     ensures { Shares r result }
 {
-    let z = towards(r);
-    let x = z.x;
-    let y = z.y;
-    let h = region_extent::reach(r, opposite(x), opposite(y));
-    sliced(r, x, y, h)
+    let w = towards(r);
+    let o = w.opposite();
+    sliced(r, w, region_extent::reach(r, o.x, o.y))
 }
 
 // The slice of the disk from where the region begins in a direction on; the disk itself where no record says that slice.
-fn sliced(r: Region, x: i16, y: i16, h: i64) -> Region
-    requires { (accepted r ≡ true) × (h ≡ reach_of r (neg_ℤ x) (neg_ℤ y)) }
+fn sliced(r: Region, w: Way, h: i64) -> Region
+    requires { (accepted r ≡ true) × (h ≡ reach_of r (neg_ℤ w.x) (neg_ℤ w.y)) }
     ensures { Shares r result }
 {
     if FARTHEST < integers::abs(h) {
@@ -44,19 +34,11 @@ fn sliced(r: Region, x: i16, y: i16, h: i64) -> Region
     }
     let s = Region::Slice(Slice {
         n: r.scale(),
-        zx: x,
-        zy: y,
+        zx: w.x,
+        zy: w.y,
         w: turned(h),
     });
     if s.is_accepted() { s } else { disk() }
-}
-
-// −z.
-fn opposite(z: i16) -> i16
-    requires { nat_abs z ≤ 100 }
-    ensures { result ≡ neg_ℤ z }
-{
-    -z
 }
 
 // −h.
@@ -94,8 +76,8 @@ fn middle(h: i64, g: i64) -> i64 {
 // A number of 32 bits; 0 for any other.
 fn narrow(z: i64) -> i32 {
     match integers::to_i32(z) {
-        Narrow::Fits(n) => n,
-        Narrow::TooWide => 0,
+        Some(n) => n,
+        None => 0,
     }
 }
 
@@ -103,9 +85,7 @@ fn narrow(z: i64) -> i32 {
 fn unit(x: u64, y: u64) -> u64
     ensures { 1 ≤ result }
 {
-    let m = if x < y { y } else { x };
-    let g = divisor(x, y);
-    if m / LONGEST < g { g } else { m / LONGEST + 1 }
+    divisor(x, y).max(x.max(y) / LONGEST + 1)
 }
 
 // The greatest common divisor; 1 for 0 and 0.
@@ -119,7 +99,7 @@ fn divisor(x: u64, y: u64) -> u64
         a = b;
         b = c;
     }
-    if a == 0 { 1 } else { a }
+    a.max(1)
 }
 
 // A part of a direction.

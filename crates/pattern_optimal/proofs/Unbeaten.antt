@@ -1,10 +1,8 @@
 -- No word in H, S, T and W, of any length and at any scale, does with fewer T than the shortest pattern: SPEC, "Shortest pattern".
-use Rattle.std.specs.Prelude.{◌≡◌, refl, true, List, ℕ, zero, suc, ◌+◌, ◌*◌, ◌/◌, ◌%◌, ◌≤◌, ◌<◌}
+use Rattle.std.specs.Prelude.{◌≡◌, refl, true, List, ℕ, zero, suc, ◌+◌, ◌*◌, ◌/◌, ◌%◌, ◌≤◌, ◌<◌, Option, Some, None}
 use Rattle.std.proofs.Common.{sym, ap, subst, ◌∙◌, arith}
 use Rattle.std.proofs.Math.Decide.{dec_lt}
 use Rattle.ring.specs.declared.Point.{Point}
-use Rattle.ring.specs.declared.Quotient.{Quotient}
-use Rattle.ring.specs.declared.Quotient.TheVariants.{Whole, NotInRing}
 use Rattle.ring.specs.Point.Divide.{divide_root2, halves, divide_whole}
 use Rattle.ring.specs.Point.Exponent.{exponent_of, exponent_zero, exponent_not, pulse_count}
 use Rattle.region.specs.declared.Job.{Job}
@@ -49,7 +47,7 @@ record Lowest (j : Job) (e : ℕ) : Type 0 where
   inside : Inside j e u
   equation : completes e u t ≡ true
 
-lower : (j : Job) (i : ℕ) (u x : Point) → divide_root2 u ≡ Whole x → Inside j (suc i) u → Inside j i x
+lower : (j : Job) (i : ℕ) (u x : Point) → divide_root2 u ≡ Some x → Inside j (suc i) u → Inside j i x
 lower j i u x d m =
     let n = subst (Inside j (suc i)) (sym (divide_whole u x d)) m in
     record { first = sym (Scale.first j i x) ∙ n.first; second = sym (Scale.second j i x) ∙ n.second }
@@ -58,9 +56,9 @@ lowest : (j : Job) (i : ℕ) (u t : Point) → Inside j i u → completes i u t 
 lowest j zero u t m c = rw (exponent_zero u) (record { u = u; t = t; inside = m; equation = c })
 lowest j (suc i) u t m c = go (divide_root2 u) refl (λ x y p q. lowest j i x y p q)
   where
-    go : (q : Quotient) → divide_root2 u ≡ q → ((x y : Point) → Inside j i x → completes i x y ≡ true → Lowest j (exponent_of i x)) → Lowest j (exponent_of (suc i) u)
-    go (Whole x) d ih = subst (Lowest j) (sym (step i u x d)) (ih x (halves t) (lower j i u x d m) (over-both i u t x c d))
-    go NotInRing d ih = subst (Lowest j) (exponent_not (suc i) u (omega arith) d) (record { u = u; t = t; inside = m; equation = c })
+    go : (q : Option Point) → divide_root2 u ≡ q → ((x y : Point) → Inside j i x → completes i x y ≡ true → Lowest j (exponent_of i x)) → Lowest j (exponent_of (suc i) u)
+    go (Some x) d ih = subst (Lowest j) (sym (step i u x d)) (ih x (halves t) (lower j i u x d m) (over-both i u t x c d))
+    go None d ih = subst (Lowest j) (exponent_not (suc i) u (omega arith) d) (record { u = u; t = t; inside = m; equation = c })
 
 -- ---- for a word of any determinant: an odd power of ω may spare one T
 module _ (j : Job) (i : ℕ) (u t : Point) (l : ℕ) (w : List Letter) (inside : Inside j i u) (spells : Spells w i (made u t l)) where

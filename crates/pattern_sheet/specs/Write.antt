@@ -1,5 +1,6 @@
 -- SPEC, "Pattern sheets": the bytes of a sheet, and what a writing answers and leaves in the lent slice.
-use Rattle.std.specs.Prelude.{◌≡◌, cond, List, [], ◌∷◌, ◌++◌, ℕ, leb, ℤ, length}
+use Rattle.pattern_sheet.specs.declared.Refusal.{Refusal}
+use Rattle.std.specs.Prelude.{◌≡◌, cond, List, [], ◌∷◌, ◌++◌, ℕ, leb, ℤ, length, Result, Ok, Err}
 use Rattle.std.proofs.Common.{arith, length-append}
 use Rattle.ring.specs.declared.Point.{Point}
 use Rattle.record_ranges.specs.Ranges.{top_scale}
@@ -8,8 +9,6 @@ use Rattle.record_fields.specs.Bytes.{little_endian, bits_of, length-bytes}
 use Rattle.text.specs.Written.{written}
 use Rattle.pattern_sheet.specs.declared.Sheet.{Sheet}
 use Rattle.pattern_sheet.specs.declared.Refusal.TheVariants.{OutOfRange, NotUnitary, NoRoom}
-use Rattle.pattern_sheet.specs.declared.Writing.{Writing}
-use Rattle.pattern_sheet.specs.declared.Writing.TheVariants.{Wrote, Refused}
 
 abbrev pub number_bytes : ℤ → List ℕ
 number_bytes z = little_endian 4 (bits_of 32 z)
@@ -41,19 +40,19 @@ length-sheet s =
     omega (arith, length-append (front ++ u ++ t) (little_endian 4 s.ticks), length-append (front ++ u) t, length-append front u, length-point s.u, length-point s.t, length-bytes 4 s.ticks)
 
 -- 4 and 12 as the desk's reading refuses them, then 13 if and only if the bytes do not fit
-unfoldable pub writing_of : Sheet → ℕ → Writing
+unfoldable pub writing_of : Sheet → ℕ → Result ℕ Refusal
 writing_of s n =
     cond (leb s.k top_scale)
     (cond (completes s.k s.u s.t)
-    (cond (leb 38 n) (Wrote 38) (Refused NoRoom))
-    (Refused NotUnitary))
-    (Refused OutOfRange)
+    (cond (leb 38 n) (Ok 38) (Err NoRoom))
+    (Err NotUnitary))
+    (Err OutOfRange)
 
 -- `written` leaves the slice as it was where they do not fit, and the bytes past them as they were
 unfoldable pub slice_after : Sheet → List ℕ → List ℕ
 slice_after s b =
     cond (leb s.k top_scale) (cond (completes s.k s.u s.t) (written b 0 (bytes_of s)) b) b
 
-pub record Writes (s : Sheet) (b b' : List ℕ) (r : Writing) : Type 0 where
+pub record Writes (s : Sheet) (b b' : List ℕ) (r : Result ℕ Refusal) : Type 0 where
   pub answers : r ≡ writing_of s (length b)
   pub slice : b' ≡ slice_after s b

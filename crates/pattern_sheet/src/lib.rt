@@ -49,13 +49,6 @@ pub enum Reading {
     Refused(Refusal),
 }
 
-// How many bytes were written.
-#[derive(Clone, Copy)]
-pub enum Writing {
-    Wrote(usize),
-    Refused(Refusal),
-}
-
 impl Refusal {
     pub fn number(self) -> u8
         ensures { result ≡ number_of self }
@@ -103,22 +96,22 @@ pub fn read(reader: u8, bytes: &[u8]) -> Reading
 }
 
 // The bytes of a sheet at the front of a slice. A sheet that the desk's reading refuses is not written.
-pub fn write(sheet: Sheet, out: &mut [u8]) -> Writing
+pub fn write(sheet: Sheet, out: &mut [u8]) -> Result<usize, Refusal>
     ensures { Writes sheet out.old out.new result }
 {
     let ranged = record_ranges::scale(sheet.k);
     let unitary = entry_equation::completes(sheet.k, sheet.u, sheet.t);
     if !ranged {
-        return Writing::Refused(Refusal::OutOfRange);
+        return Err(Refusal::OutOfRange);
     }
     if !unitary {
-        return Writing::Refused(Refusal::NotUnitary);
+        return Err(Refusal::NotUnitary);
     }
     if out.len() < LENGTH {
-        return Writing::Refused(Refusal::NoRoom);
+        return Err(Refusal::NoRoom);
     }
     put_sheet(out, sheet);
-    Writing::Wrote(LENGTH)
+    Ok(LENGTH)
 }
 
 // The desk sees every field, of a sheet whose u and t make a unitary matrix.

@@ -1,12 +1,10 @@
 -- No u and t that solve the equation, with u in A and its conjugate in B, up to the top scale, have a smaller m than the pattern's: SPEC, "Shortest pattern".
-use Rattle.std.specs.Prelude.{◌≡◌, refl, Bool, true, not, List, [], ◌∷◌, ◌↔◌, ℕ, zero, suc, ◌+◌, ◌≤◌, ◌<◌}
+use Rattle.std.specs.Prelude.{◌≡◌, refl, Bool, true, not, List, [], ◌∷◌, ◌↔◌, ℕ, zero, suc, ◌+◌, ◌≤◌, ◌<◌, Option, Some, None}
 use Rattle.std.proofs.Common.{sym, ap, subst, ◌∙◌, arith, eqb-true}
 use Rattle.std.proofs.lemmas.Bool.{false≢true}
 use mathlib.Core.List.Memᴰ
 use Rattle.std.proofs.Math.Decide.{dec_lt}
 use Rattle.ring.specs.declared.Point.{Point}
-use Rattle.ring.specs.declared.Quotient.{Quotient}
-use Rattle.ring.specs.declared.Quotient.TheVariants.{Whole, NotInRing}
 use Rattle.ring.specs.Point.Divide.{divide_root2, halves, divide_whole}
 use Rattle.ring.specs.Point.Exponent.{exponent_of, exponent_zero, exponent_not, pulse_count}
 use Rattle.ranks.specs.Rest.{is_nil}
@@ -57,14 +55,14 @@ pub reduced : (j : Job) (i : ℕ) (u t : Point) → Pairs j i u t → Qualified 
 reduced j zero u t p = rw (exponent_zero u) (record { point = u; is = qualified j 0 u t p (new_zero 0 u refl) })
 reduced j (suc i) u t p = go (divide_root2 u) refl (λ x y q. reduced j i x y q)
   where
-    go : (q : Quotient) → divide_root2 u ≡ q → ((x y : Point) → Pairs j i x y → Qualified j (exponent_of i x)) → Qualified j (exponent_of (suc i) u)
-    go (Whole x) d ih =
+    go : (q : Option Point) → divide_root2 u ≡ q → ((x y : Point) → Pairs j i x y → Qualified j (exponent_of i x)) → Qualified j (exponent_of (suc i) u)
+    go (Some x) d ih =
         subst (Qualified j) (sym (step i u x d))
         (ih x (halves t) (record {
           inside = sym (scale-law j i u x (solves-true (at j (suc i)) u p.inside).scale (divide_whole u x d)) ∙ p.inside;
           equation = over-both i u t x p.equation d;
         }))
-    go NotInRing d ih = subst (Qualified j) (exponent_not (suc i) u (omega arith) d) (record { point = u; is = qualified j (suc i) u t p (new_not (suc i) u d) })
+    go None d ih = subst (Qualified j) (exponent_not (suc i) u (omega arith) d) (record { point = u; is = qualified j (suc i) u t p (new_not (suc i) u d) })
 
 -- ---- what is found at one scale
 qualifies-fits : (j : Job) (v : Point) → qualifies j v ≡ true → Fits32 v

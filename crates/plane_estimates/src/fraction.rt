@@ -23,9 +23,7 @@ fn cross(u: i16, v: i16, x: i16, y: i16) -> u64
 fn larger(x: i16, y: i16) -> u64
     ensures { result ≤ 32768 }
 {
-    let a = integers::abs(x as i64);
-    let b = integers::abs(y as i64);
-    if a < b { b } else { a }
+    u64::from(x.unsigned_abs().max(y.unsigned_abs()))
 }
 
 // About a/b.
@@ -83,7 +81,7 @@ fn fraction_of(g: u64, b: u64, z: u64) -> Fraction
     }
     Fraction {
         p: g * q / 256 + 1,
-        q: q,
+        q,
     }
 }
 

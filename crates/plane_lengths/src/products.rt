@@ -37,6 +37,7 @@ pub fn farther(u: i16, l: i32, h: i32) -> i64
 {
     let a = product(u, l);
     let b = product(u, h);
+    // No max: of what it promises the proof of max_z does not close.
     if a <= b { b } else { a }
 }
 

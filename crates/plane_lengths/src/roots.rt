@@ -49,10 +49,8 @@ fn power_above(n: u64) -> u64 {
 // About √n, from above: nothing is claimed of how near.
 fn near_root(n: u64) -> u64 {
     let mut x = power_above(n);
-    let mut i: u64 = 0;
-    while i < 5 {
+    for _ in 0..5 {
         x = halfway(x, n);
-        i += 1;
     }
     above(x, n)
 }
@@ -91,6 +89,7 @@ pub fn ceil_sqrt(n: u64) -> u64
     }
     let mut lo: u64 = 0;
     let mut hi = roof(n);
+    // A while: a bisection, whose steps are not one.
     while lo < hi {
         let mid = lo + (hi - lo) / 2;
         if n <= mid * mid {

@@ -1,12 +1,56 @@
 // What the programs share that print one text for their whole input (specs/Answered).
 #![tactic(auto)]
 
-ghost use Rattle.std.specs.Prelude.{◌≡◌, ◌≤◌, length, take};
+ghost use Rattle.std.specs.Prelude.{◌≡◌, ◌^◌, ◌<◌, ◌≤◌, ℕ, List, length, take};
 ghost use Rattle.system_transfer.specs.Sending.{Sent};
 ghost use Rattle.system_transfer.specs.Receiving.{Received};
+ghost use Rattle.program_filter.specs.Answered.{Answered};
 
 use std::time::Clock;
 use system_transfer::Transfer;
+
+// A program that prints one text for its whole input: the text, and the length of the buffer that it is put in.
+pub trait Filter {
+    ghost text: { List ℕ → List ℕ };
+
+    ghost room: { ℕ };
+
+    // Puts the text at the start of the buffer, and answers its length.
+    fn put(out: &mut [u8], bytes: &[u8]) -> usize
+        requires { length out.old ≡ room }
+        ensures within { result ≤ length out.new }
+        ensures is { take result out.new ≡ text bytes.now };
+}
+
+// The program, with buffers of so many bytes for its input and its output.
+pub fn run<P: Filter, R: Input + Print + Eprint + Clock, const IN: usize, const OUT: usize>(
+    rt: &R,
+) -> bool
+    requires { (IN < 2 ^ 63) × (OUT < 2 ^ 63) × (OUT ≡ P.room) }
+    ensures { (input : List ℕ) × Answered P.text input result }
+{
+    let mut input = [0; IN];
+    let mut output = [0; OUT];
+    answer::<P, R>(rt, &mut input, &mut output)
+}
+
+// Whether the input came without a failure and all of the program's text was taken. After a read that failed nothing is printed.
+fn answer<P: Filter, R: Input + Print + Eprint + Clock>(
+    rt: &R,
+    input: &mut [u8],
+    output: &mut [u8],
+) -> bool
+    requires { length output.old ≡ P.room }
+    ensures { Answered P.text input.new result }
+{
+    let got = read(rt, input);
+    let n = got.at;
+    if got.failed {
+        return false;
+    }
+    let length = P::put(output, &input[..n]);
+    print(rt, output, length)
+}
 
 // One byte more than an input of words or records may have.
 pub fn input_buffer() -> [u8; 65537]

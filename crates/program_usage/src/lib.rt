@@ -19,7 +19,7 @@ pub fn told<R: Env + Clock, W: Write>(rt: &R, to: &mut W, text: &[u8]) -> bool
     true
 }
 
-// Whether there is an argument at a place, that is from 1 on.
+// Whether there is an argument at a place, that is from 1 on. No contract: what std's `arg` answers is the system's, and its clause says only how much it writes.
 pub fn has_argument<R: Env>(rt: &R, i: usize) -> bool {
     let mut first = [0u8; 1];
     !matches!(rt.arg(i, &mut first), Err(FillError::NotPresent))

@@ -1,12 +1,21 @@
 // The program `qasm`: a word on standard input, its file of OpenQASM 2.0 on standard output. SPEC, "OpenQASM programs".
 #![tactic(auto)]
 
-ghost use Rattle.std.specs.Prelude.{◌≡◌, length};
-ghost use Rattle.system_transfer.specs.Sending.{Sent};
-ghost use Rattle.program_filter.specs.Answered.{Answered};
 ghost use Rattle.qasm_file.specs.File.{file_of};
 
-use std::time::Clock;
+use program_filter::Filter;
+
+struct Qasm;
+
+impl Filter for Qasm {
+    ghost text = { file_of };
+
+    ghost room = { 524335 };
+
+    fn put(out: &mut [u8], bytes: &[u8]) -> usize {
+        qasm_file::put_file(out, bytes)
+    }
+}
 
 fn main(rt: HostRuntime) {
     if program_usage::told(
@@ -16,32 +25,5 @@ fn main(rt: HostRuntime) {
     ) {
         return;
     }
-    let mut input = program_filter::input_buffer();
-    answer(&rt, &mut input);
-}
-
-// Whether the input came without a failure and all of its output was taken. After a read that failed nothing is printed.
-fn answer<R: Input + Print + Eprint + Clock>(rt: &R, input: &mut [u8]) -> bool
-    ensures { Answered file_of input.new result }
-{
-    let got = program_filter::read(rt, input);
-    let n = got.at;
-    if got.failed {
-        return false;
-    }
-    say(rt, &input[..n])
-}
-
-fn say<R: Print + Eprint + Clock>(rt: &R, bytes: &[u8]) -> bool
-    ensures { Sent (file_of bytes.now) result }
-{
-    let mut out = output_buffer();
-    let n = qasm_file::put_file(&mut out, bytes);
-    program_filter::print(rt, &out, n)
-}
-
-fn output_buffer() -> [u8; 524335]
-    ensures { 524335 ≡ length result }
-{
-    [0; 524335]
+    program_filter::run::<Qasm, _, 65537, 524335>(&rt);
 }

@@ -4,8 +4,6 @@ ghost use Rattle.text_puts.specs.Puts.{Puts};
 ghost use Rattle.text_puts.specs.Texts.{shown};
 ghost use Rattle.qasm_file.specs.File.{begins_file, line_texts, back_texts};
 
-use gate_qasm::Answer;
-
 // What `unqasm` prints for an input.
 pub fn put_back(out: &mut [u8], bytes: &[u8]) -> usize
     ensures { Puts (out.old, 0) (back_texts bytes.now) (out.new, result) 65537 }
@@ -40,8 +38,8 @@ fn put_lines_word(out: &mut [u8], lines: &[u8]) -> usize
     let mut word = word_buffer();
     let a = gate_qasm::read(lines, &mut word);
     match a {
-        Answer::Wrote(n) => put_word(out, &word[..n]),
-        Answer::Refused(f) => text_puts::put_refusal(out, 0, f.number(), 47),
+        Ok(n) => put_word(out, &word[..n]),
+        Err(f) => text_puts::put_refusal(out, 0, f.number(), 47),
     }
 }
 

@@ -9,7 +9,6 @@ ghost use Rattle.text_puts.specs.Puts.{Puts};
 ghost use Rattle.qasm_file.specs.File.{header, letter_texts, word_texts, file_texts};
 
 pub use back::put_back;
-use gate_qasm::Answer;
 
 // What `qasm` prints for an input.
 pub fn put_file(out: &mut [u8], bytes: &[u8]) -> usize
@@ -38,8 +37,8 @@ fn put_letters(out: &mut [u8], word: &[u8], place: usize) -> usize
     let mut lines = lines_buffer();
     let a = gate_qasm::write(word, &mut lines);
     match a {
-        Answer::Wrote(n) => put_lines(out, &lines[..n]),
-        Answer::Refused(f) => text_puts::put_refusal(out, 0, f.number(), place),
+        Ok(n) => put_lines(out, &lines[..n]),
+        Err(f) => text_puts::put_refusal(out, 0, f.number(), place),
     }
 }
 

@@ -23,12 +23,10 @@ pub(crate) fn place_of(s: &[u8]) -> usize
 fn line_start(s: &[u8]) -> usize
     ensures { (result ≡ line_start s.now (length s.now)) × (result ≤ length s.now) }
 {
-    let mut i = s.len();
-    while 0 < i {
-        if s[i - 1] == b'\n' {
-            return i;
+    for i in (0..s.len()).rev() {
+        if s[i] == b'\n' {
+            return i + 1;
         }
-        i -= 1;
     }
     0
 }

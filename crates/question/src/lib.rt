@@ -58,14 +58,8 @@ fn searched(job: Job, caller: Operator) -> bool
 fn is_loose(job: Job, g: Invertible) -> bool
     requires { (accepted_job job ≡ true) × Undoing g }
 {
-    let a = job.a;
-    let b = job.b;
-    if region_extent::radius(a) == 0 {
-        if region_extent::radius(b) == 0 {
-            return false;
-        }
-    }
-    question_reduction::is_large(job, g)
+    let has_slice = region_extent::radius(job.a) != 0 || region_extent::radius(job.b) != 0;
+    has_slice && question_reduction::is_large(job, g)
 }
 
 // By the operator's boxes, or by a longer look first.

@@ -132,16 +132,13 @@ pub fn has_pair(l: Problem) -> bool
     requires { Searchable l }
     ensures { result ≡ false → Pairless l }
 {
-    let end = l.end;
-    let mut t = l.from;
-    while t < end {
+    for t in l.from..l.end {
         let q = start(l, t);
         if q < TOP {
             if reaches(l, t, q) {
                 return true;
             }
         }
-        t += 1;
     }
     false
 }

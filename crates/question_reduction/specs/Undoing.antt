@@ -1,9 +1,8 @@
 -- An operator with its inverse, and its numbers as directions.
-use Rattle.std.specs.Prelude.{◌≡◌}
+use Rattle.std.specs.Prelude.{◌≡◌, Ok}
 use Rattle.std.proofs.Common.{arith}
 use Rattle.integers.specs.lemmas.Size.{size-+, size--}
 use Rattle.ring.specs.Point.{√2x, √2y, √2x_parts, √2y_parts}
-use Rattle.operator.specs.declared.Inverse.TheVariants.{Operator as Undo}
 use Rattle.operator.specs.Inverse.{inverse_of, one, im}
 use Rattle.operator.specs.lemmas.Undoes.{inverse_is}
 use Rattle.operator.specs.Accepted.{accepted}
@@ -12,7 +11,7 @@ use Rattle.question_reduction.specs.declared.Invertible.{Invertible}
 
 -- an operator and its inverse
 pub record Undoing (g : Invertible) : Type 0 where
-  pub undone : inverse_of g.there ≡ Undo g.back
+  pub undone : inverse_of g.there ≡ Ok g.back
 
 pub direction_x : (g : Invertible) → Undoing g → Direction (√2x (one g.there)) (√2x (im g.there))
 direction_x g u =

@@ -1,7 +1,6 @@
 // The generators of the Note, Algorithm 3.13, and the composition of operators within range.
 use crate::parts::{im, one};
 use crate::usable;
-use integers::Short;
 use operator::{Operator, WidePoint};
 
 // Generators and their inverses.
@@ -25,14 +24,14 @@ pub(crate) fn sending(
     di: i16,
 ) -> Operator {
     Operator {
-        a: a,
-        b: b,
-        c: c,
-        d: d,
-        ai: ai,
-        bi: bi,
-        ci: ci,
-        di: di,
+        a,
+        b,
+        c,
+        d,
+        ai,
+        bi,
+        ci,
+        di,
     }
 }
 
@@ -64,16 +63,16 @@ pub(crate) fn turned(i: u64) -> Operator {
 }
 
 fn halved(w: WidePoint) -> Half {
-    let Short::Fits(a) = integers::to_i16(w.a) else {
+    let Some(a) = integers::to_i16(w.a) else {
         return Half::TooWide;
     };
-    let Short::Fits(b) = integers::to_i16(w.b) else {
+    let Some(b) = integers::to_i16(w.b) else {
         return Half::TooWide;
     };
-    let Short::Fits(c) = integers::to_i16(w.c) else {
+    let Some(c) = integers::to_i16(w.c) else {
         return Half::TooWide;
     };
-    let Short::Fits(d) = integers::to_i16(w.d) else {
+    let Some(d) = integers::to_i16(w.d) else {
         return Half::TooWide;
     };
     Half::Fits(a, b, c, d)

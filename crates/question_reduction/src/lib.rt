@@ -2,7 +2,6 @@
 #![tactic(auto)]
 
 ghost use Rattle.std.specs.Prelude.{◌≡◌};
-ghost use Rattle.operator.specs.declared.Check.TheVariants.{Special};
 ghost use Rattle.operator.specs.Operator.{check_of};
 ghost use Rattle.question_reduction.specs.Undoing.{Undoing};
 
@@ -10,7 +9,7 @@ mod generators;
 mod parts;
 mod reduce;
 
-use operator::{Inverse, Operator};
+use operator::Operator;
 pub use parts::{imaginary_strips, real_strips};
 pub use reduce::{chosen, is_large, oriented};
 use region::Job;
@@ -24,7 +23,7 @@ pub struct Invertible {
 
 // The reduction's proposal for a job. Its choice is free: it passes the operators' test, and every answer is the same whatever it is.
 pub fn propose(job: Job) -> Operator
-    ensures { check_of result ≡ Special }
+    ensures { check_of result ≡ Ok tt }
 {
     if job.is_accepted() {
         let t = reduce::reduced(job);
@@ -40,8 +39,8 @@ pub fn usable(g: Operator) -> Invertible
 {
     let i = g.inverse();
     match i {
-        Inverse::Operator(h) => Invertible { there: g, back: h },
-        Inverse::Refused(_) => Invertible {
+        Ok(h) => Invertible { there: g, back: h },
+        Err(_) => Invertible {
             there: Operator::IDENTITY,
             back: Operator::IDENTITY,
         },

@@ -31,16 +31,9 @@ struct Reached {
 fn log(w: u64) -> u64
     ensures { result ≤ 1024 }
 {
-    let mut x = w;
-    let mut n = 0;
-    while n < 960 {
-        if x < 32 {
-            break;
-        }
-        x = x / 2;
-        n += 16;
-    }
-    n + x % 32
+    // How many binary digits come after the first five.
+    let s = (64 - w.leading_zeros()).saturating_sub(5);
+    16 * u64::from(s) + (w >> s) % 32
 }
 
 // About how many pairs a line has, by the logarithm: one at least, and one where a strip has no width.
@@ -50,7 +43,7 @@ fn size(s: Strips) -> u64
 {
     let a = log(units::width(s.first));
     let b = log(units::width(s.second));
-    if (a == 0) | (b == 0) | (a + b < ONE) {
+    if a == 0 || b == 0 || a + b < ONE {
         ONE
     } else {
         a + b
@@ -81,14 +74,10 @@ fn step(job: Job, from: Reached) -> Reached
     requires { (accepted_job job ≡ true) × Undoing from.turn }
     ensures { Undoing result.turn }
 {
-    let t = from.turn;
-    let g = t.there;
     let mut best = from;
-    let mut i = 0;
-    while i < GENERATORS {
-        let r = measured(job, usable(composed(turned(i), g)));
+    for i in 0..GENERATORS {
+        let r = measured(job, usable(composed(turned(i), from.turn.there)));
         best = better(r, best);
-        i += 1;
     }
     best
 }
@@ -98,14 +87,12 @@ pub(crate) fn reduced(job: Job) -> Invertible
     ensures { Undoing result }
 {
     let mut best = measured(job, usable(Operator::IDENTITY));
-    let mut n = 0;
-    while n < BUDGET {
+    for _ in 0..BUDGET {
         let r = step(job, best);
         if best.size <= r.size {
             break;
         }
         best = r;
-        n += 1;
     }
     best.turn
 }
@@ -119,16 +106,14 @@ pub fn chosen(job: Job, g: Invertible) -> Invertible
     if m.size < LARGE {
         return g;
     }
-    let r = better(measured(job, usable(propose(job))), m);
-    r.turn
+    better(measured(job, usable(propose(job))), m).turn
 }
 
 // Whether an operator's boxes are large: nothing rests on it.
 pub fn is_large(job: Job, g: Invertible) -> bool
     requires { (accepted_job job ≡ true) × Undoing g }
 {
-    let m = measured(job, g);
-    LARGE <= m.size
+    LARGE <= measured(job, g).size
 }
 
 // The operator, or the operator with its two parts exchanged, so that the imaginary part has the fewer pairs: the search goes over them first.

@@ -48,13 +48,15 @@ fn is_near(f: RootTwo, x: i64) -> bool
 // How many times a direction can be made longer by 3 + 2√2, where its greater part is about m and the disk's radius n.
 fn steps(n: u16, m: u64) -> u64 {
     let a = near::product(n as u64, m);
-    if (a <= 30) & (m <= 13) {
-        return 4;
+    if a <= 30 && m <= 13 {
+        4
+    } else if a <= 1000 && m <= 80 {
+        3
+    } else if a <= 34000 && m <= 470 {
+        2
+    } else {
+        1
     }
-    if (a <= 1000) & (m <= 80) {
-        return 3;
-    }
-    if (a <= 34000) & (m <= 470) { 2 } else { 1 }
 }
 
 // The bound in a whole direction.
@@ -76,11 +78,7 @@ fn beyond(b: i64, n: u16) -> i64
 fn is_small(c: RootTwo) -> bool
     ensures { result ≡ true → Sized reach_size reach_size c }
 {
-    if integers::abs(c.p) <= 33554432 {
-        integers::abs(c.q) <= 33554432
-    } else {
-        false
-    }
+    integers::abs(c.p) <= 33554432 && integers::abs(c.q) <= 33554432
 }
 
 // c where that is small and at most d, else d.
@@ -122,6 +120,6 @@ pub(crate) fn sharpened(region: Region, n: u16, u: RootTwo, v: RootTwo, d: RootT
     requires { (accepted region ≡ true) × Direction u v × Reaches region u v d × InDisk region n }
     ensures { Reaches region u v result }
 {
-    let m = near::greater(integers::abs(rounded(u)), integers::abs(rounded(v)));
+    let m = integers::abs(rounded(u)).max(integers::abs(rounded(v)));
     sharp(region, n, u, v, units::unit(steps(n, m)), d)
 }

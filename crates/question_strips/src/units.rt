@@ -35,16 +35,14 @@ pub fn unit(n: u64) -> RootTwo
 
 // How many times a grows by 3 + 2√2 and b shrinks by it until a is about b: the quotient falls by 34 a step.
 fn steps(a: u64, b: u64) -> u64 {
-    let mut n = 0;
     let mut x = b / 6;
-    while n < 7 {
+    for n in 0..7 {
         if x <= a {
-            break;
+            return n;
         }
-        x = x / 34;
-        n += 1;
+        x /= 34;
     }
-    n
+    7
 }
 
 // About 1024 times hi − lo, over m.
@@ -96,30 +94,18 @@ pub fn scaled(s: Strips, u: RootTwo) -> Strips
 fn is_short(x: RootTwo) -> bool
     ensures { result ≡ true → Sized end_size end_size x }
 {
-    if integers::abs(x.p) <= LARGEST {
-        integers::abs(x.q) <= LARGEST
-    } else {
-        false
-    }
+    integers::abs(x.p) <= LARGEST && integers::abs(x.q) <= LARGEST
 }
 
 fn has_short_ends(s: Band) -> bool
     ensures { result ≡ true → Sized end_size end_size s.lo × Sized end_size end_size s.hi }
 {
-    if is_short(s.lo) {
-        is_short(s.hi)
-    } else {
-        false
-    }
+    is_short(s.lo) && is_short(s.hi)
 }
 
 // Whether both strips are within the sizes of a search.
 pub fn fits(s: Strips) -> bool
     ensures { result ≡ true → (Sized end_size end_size s.first.lo × Sized end_size end_size s.first.hi) × (Sized end_size end_size s.second.lo × Sized end_size end_size s.second.hi) }
 {
-    if has_short_ends(s.first) {
-        has_short_ends(s.second)
-    } else {
-        false
-    }
+    has_short_ends(s.first) && has_short_ends(s.second)
 }

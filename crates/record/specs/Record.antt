@@ -1,5 +1,6 @@
 -- One reading: SPEC, "Records" and "Refusals". It takes one record from the front of the bytes, or refuses it.
-use Rattle.std.specs.Prelude.{◌≡◌, true, false, cond, List, [], ◌∷◌, ℕ, ◌-◌, eqb, leb, ltb, length, drop, get_or}
+use Rattle.record_kinds.specs.declared.Refusal.{Refusal}
+use Rattle.std.specs.Prelude.{◌≡◌, true, false, cond, List, [], ◌∷◌, ℕ, ◌-◌, eqb, leb, ltb, length, drop, get_or, Result, Ok, Err}
 use Rattle.std.proofs.Math.Path.{refl}
 use Rattle.std.proofs.Common.{ap, arith, length-drop}
 use Rattle.std.proofs.Math.Option.{Option}
@@ -10,12 +11,12 @@ use Rattle.region.specs.declared.Ellipse.{Ellipse}
 use Rattle.region.specs.declared.Slice.{Slice}
 use Rattle.region.specs.declared.Region.{Region}
 use Rattle.region.specs.declared.Region.TheVariants as Shape
-use Rattle.region.specs.declared.Check.TheVariants as R
-use Rattle.region.specs.declared.Check as RegionCheck
+use Rattle.region.specs.declared.Refusal.TheVariants as R
+use Rattle.region.specs.declared.Refusal as RegionCheck
 use Rattle.region.specs.Region as Reg
 use Rattle.operator.specs.declared.Operator.{Operator}
-use Rattle.operator.specs.declared.Check.TheVariants as O
-use Rattle.operator.specs.declared.Check as OperatorCheck
+use Rattle.operator.specs.declared.Refusal.TheVariants as O
+use Rattle.operator.specs.declared.Refusal as OperatorCheck
 use Rattle.operator.specs.Operator as Op
 use Rattle.record_kinds.specs.declared.Kind.{Kind}
 use Rattle.record_kinds.specs.declared.Kind.TheVariants as K
@@ -23,8 +24,6 @@ use Rattle.record_kinds.specs.declared.Turn.{Turn}
 use Rattle.record.specs.declared.Record.{Record}
 use Rattle.record.specs.declared.Record.TheVariants as Rec
 use Rattle.record_kinds.specs.declared.Refusal.TheVariants.{NoKind, UnknownKind, OutOfRange, NotPositive, OddParity, NotSpecial, NoDirection}
-use Rattle.record_kinds.specs.declared.Admission.{Admission}
-use Rattle.record_kinds.specs.declared.Admission.TheVariants as A
 use Rattle.record.specs.declared.Reading.{Reading}
 use Rattle.record.specs.declared.Reading.TheVariants.{Accepted, Refused}
 use Rattle.record_kinds.specs.Kinds.{number, kind_of, body_length, in_turn, is_known, admission_of}
@@ -67,17 +66,17 @@ selection_of s =
     (cond (eqb (unsigned_at 1 s 0) 1) (Accepted (Rec.Selection true) 2) (Refused OutOfRange))
 
 -- what the check of a region, and of an operator, makes of a reading that took n bytes
-abbrev pub region_reading : RegionCheck.Check → Region → ℕ → Reading
-region_reading R.Accepted r n = Accepted (Rec.Region r) n
-region_reading R.OutOfRange r n = Refused OutOfRange
-region_reading R.NotPositive r n = Refused NotPositive
-region_reading R.NoDirection r n = Refused NoDirection
+abbrev pub region_reading : Result Unit RegionCheck.Refusal → Region → ℕ → Reading
+region_reading (Ok tt) r n = Accepted (Rec.Region r) n
+region_reading (Err R.OutOfRange) r n = Refused OutOfRange
+region_reading (Err R.NotPositive) r n = Refused NotPositive
+region_reading (Err R.NoDirection) r n = Refused NoDirection
 
-abbrev pub operator_reading : OperatorCheck.Check → Operator → ℕ → Reading
-operator_reading O.Special g n = Accepted (Rec.Operator g) n
-operator_reading O.OutOfRange g n = Refused OutOfRange
-operator_reading O.OddParity g n = Refused OddParity
-operator_reading O.NotSpecial g n = Refused NotSpecial
+abbrev pub operator_reading : Result Unit OperatorCheck.Refusal → Operator → ℕ → Reading
+operator_reading (Ok tt) g n = Accepted (Rec.Operator g) n
+operator_reading (Err O.OutOfRange) g n = Refused OutOfRange
+operator_reading (Err O.OddParity) g n = Refused OddParity
+operator_reading (Err O.NotSpecial) g n = Refused NotSpecial
 
 unfoldable pub body_of : Kind → List ℕ → Reading
 body_of K.Scale s = scale_of s
@@ -89,9 +88,9 @@ body_of K.Selection s = selection_of s
 body_of K.Unknown s = Refused UnknownKind
 
 -- a body that is read where nothing is refused before
-abbrev pub admitted : Admission → Reading → Reading
-admitted (A.Refused why) r = Refused why
-admitted A.Whole r = r
+abbrev pub admitted : Result Unit Refusal → Reading → Reading
+admitted (Err why) r = Refused why
+admitted (Ok tt) r = r
 
 abbrev pub kind_reading : Kind → List ℕ → Turn → Reading
 kind_reading k body t = admitted (admission_of (is_known k) (in_turn k t) (ltb (length body) (body_length k))) (body_of k body)
@@ -192,5 +191,5 @@ unfolding reading_of
 reading_kind [] t h = absurd (h refl)
 reading_kind (b ∷ l) t h = refl
 
-pub reading_admitted : (l : List ℕ) (t : Turn) (k : Kind) → (length l ≡ 0 → ⊥) → k ≡ kind_of (get_or l 0 0) → (a : Admission) → a ≡ admission_of (is_known k) (in_turn k t) (ltb (length l - 1) (body_length k)) → reading_of l t ≡ admitted a (body_of k (drop 1 l))
+pub reading_admitted : (l : List ℕ) (t : Turn) (k : Kind) → (length l ≡ 0 → ⊥) → k ≡ kind_of (get_or l 0 0) → (a : Result Unit Refusal) → a ≡ admission_of (is_known k) (in_turn k t) (ltb (length l - 1) (body_length k)) → reading_of l t ≡ admitted a (body_of k (drop 1 l))
 reading_admitted l t k some e a f = rw (reading_kind l t some, ← e, length-drop 1 l, ← f) refl

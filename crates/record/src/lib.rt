@@ -8,7 +8,7 @@ ghost use Rattle.record_kinds.specs.Kinds.{body_length};
 ghost use Rattle.record.specs.Record.{Reads, body_of, scale_of, selection_of, rectangle_of, ellipse_of, slice_of, operator_of, region_reading, operator_reading};
 
 use operator::Operator;
-use record_kinds::{Admission, Kind};
+use record_kinds::Kind;
 pub use record_kinds::{Refusal, Turn};
 use region::{Ellipse, Rectangle, Region, Slice};
 
@@ -42,8 +42,8 @@ pub fn read(bytes: &[u8], turn: Turn) -> Reading
         record_kinds::in_turn(kind, turn),
         short,
     ) {
-        Admission::Refused(why) => Reading::Refused(why),
-        Admission::Whole => body(kind, &bytes[1..]),
+        Err(why) => Reading::Refused(why),
+        Ok(()) => body(kind, &bytes[1..]),
     }
 }
 
@@ -86,6 +86,7 @@ fn selection_at(s: &[u8]) -> Reading
     }
 }
 
+// Four readers, not one: each kind has fields of its own, at places of its own.
 fn rectangle_at(s: &[u8]) -> Rectangle
     requires { 18 ≤ length s.now }
     ensures { result ≡ rectangle_of s.now }
@@ -147,10 +148,10 @@ fn checked_region(r: Region, taken: usize) -> Reading
 {
     let c = r.check();
     match c {
-        region::Check::Accepted => Reading::Accepted(Record::Region(r), taken),
-        region::Check::OutOfRange => Reading::Refused(Refusal::OutOfRange),
-        region::Check::NotPositive => Reading::Refused(Refusal::NotPositive),
-        region::Check::NoDirection => Reading::Refused(Refusal::NoDirection),
+        Ok(()) => Reading::Accepted(Record::Region(r), taken),
+        Err(region::Refusal::OutOfRange) => Reading::Refused(Refusal::OutOfRange),
+        Err(region::Refusal::NotPositive) => Reading::Refused(Refusal::NotPositive),
+        Err(region::Refusal::NoDirection) => Reading::Refused(Refusal::NoDirection),
     }
 }
 
@@ -159,9 +160,9 @@ fn checked_operator(g: Operator, taken: usize) -> Reading
 {
     let c = g.check();
     match c {
-        operator::Check::Special => Reading::Accepted(Record::Operator(g), taken),
-        operator::Check::OutOfRange => Reading::Refused(Refusal::OutOfRange),
-        operator::Check::OddParity => Reading::Refused(Refusal::OddParity),
-        operator::Check::NotSpecial => Reading::Refused(Refusal::NotSpecial),
+        Ok(()) => Reading::Accepted(Record::Operator(g), taken),
+        Err(operator::Refusal::OutOfRange) => Reading::Refused(Refusal::OutOfRange),
+        Err(operator::Refusal::OddParity) => Reading::Refused(Refusal::OddParity),
+        Err(operator::Refusal::NotSpecial) => Reading::Refused(Refusal::NotSpecial),
     }
 }

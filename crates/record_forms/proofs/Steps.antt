@@ -9,9 +9,11 @@ use native.Mathlib.Nat.{pow-suc, two-pow-succ, div-add-mod', mod-lt, add-mul-mod
 use lib.Dec.{ltb, eqb}
 use lib.IntN.{ℤ, pos, negsuc, nat_abs}
 use lib.Signed.{mag, lt_z}
-use lib.ListN.{length, get_or, take, drop, length-drop, drop_of_length-le}
-use lib.Seq.{drop-cons, get_or-take}
+use lib.ListN.{length, get_or, drop, drop_of_length-le}
+use lib.Seq.{drop-cons}
 use borrow.Author.Tests.{ltb-true, ltb-false, lt-ltb, le-ltb, eqb-true, eqb-false}
+use Rattle.std.specs.Bool.{MatchBool}
+use Rattle.std.specs.List.{AllWithin, HoldsAt, zip}
 use Rattle.record_fields.specs.Bytes.{little_endian, bits_of}
 use Rattle.record_forms.specs.declared.Field.{Field}
 use Rattle.record_kinds.specs.declared.Kind.{Kind}
@@ -111,12 +113,6 @@ takes-length (f ∷ fs) (z ∷ zs) h = go (takes f z) (takes-length fs zs (λ e.
     go true e = e
     go false e = refl
 
-pub takes_none : (fs : List Field) (zs : List ℤ) → length fs ≡ 0 → length zs ≡ 0 → takes_all fs zs ≡ true
-unfolding takes_all
-takes_none [] [] h k = refl
-takes_none [] (z ∷ zs) h k = absurd (omega arith)
-takes_none (f ∷ fs) zs h k = absurd (omega arith)
-
 module _ (fs : List Field) (zs : List ℤ) (i : ℕ) (d : Field) (e : ℤ) (p : i < length fs) (q : i < length zs) where
   pub takes-drop : takes_all (drop i fs) (drop i zs) ≡ cond (takes (get_or fs i d) (get_or zs i e)) (takes_all (drop (i + 1) fs) (drop (i + 1) zs)) false
   unfolding takes_all
@@ -203,26 +199,15 @@ takes-long [] (z ∷ zs) h = absurd (let y : ◌≡◌ {A = ℕ} 0 1 = cc in ome
 takes-long (f ∷ fs) [] h = absurd (let y : ◌≡◌ {A = ℕ} 0 1 = cc in omega arith)
 takes-long (f ∷ fs) (z ∷ zs) h = ap suc (takes-long fs zs (both (takes f z) (takes_all fs zs) h).1)
 
-pub takes-there : (fs : List Field) (zs : List ℤ) (i : ℕ) → i < length fs → takes_all (drop i fs) (drop i zs) ≡ true → i < length zs
-takes-there fs zs i p h = let e = takes-long (drop i fs) (drop i zs) h in let a = length-drop i fs in let b = length-drop i zs in omega arith
+module _ (fs : List Field) (zs : List ℤ) (i : ℕ) (f : Field) (z : ℤ) (p : i < length fs) (q : i < length zs) (fi : (d : Field) → f ≡ get_or fs i d) (zi : (e : ℤ) → z ≡ get_or zs i e) where
+  pub takes-here : takes_all (drop i fs) (drop i zs) ≡ true → (takes f z ≡ true) × (takes_all (drop (i + 1) fs) (drop (i + 1) zs) ≡ true)
+  takes-here h = rw (fi none, zi (pos 0)) (both _ _ (sym (takes-drop fs zs i none (pos 0) p q) ∙ h))
 
-module _ (all : List Field) (count : ℕ) (zs : List ℤ) (i : ℕ) (d : Field) (e : ℤ) (p : i < length (take count all)) (q : i < length zs) (c : i < count) where
-  abbrev fs : List Field
-  fs = take count all
-
-  field_is : get_or fs i d ≡ get_or all i d
-  field_is = get_or-take count all i d c
-
-  pub takes-here : takes_all (drop i fs) (drop i zs) ≡ cond (takes (get_or all i d) (get_or zs i e)) (takes_all (drop (i + 1) fs) (drop (i + 1) zs)) false
-  takes-here = takes-drop fs zs i d e p q ∙ ap (λ (f : Field). cond (takes f (get_or zs i e)) (takes_all (drop (i + 1) fs) (drop (i + 1) zs)) false) field_is
-
-  pub body-here : body_bytes (drop i fs) (drop i zs) ≡ field_bytes (get_or all i d) (get_or zs i e) ++ body_bytes (drop (i + 1) fs) (drop (i + 1) zs)
-  body-here = body-drop fs zs i d e p q ∙ ap (λ (f : Field). field_bytes f (get_or zs i e) ++ body_bytes (drop (i + 1) fs) (drop (i + 1) zs)) field_is
-
-  pub body-again : (s t end : Slate) → laid s (body_bytes (drop i fs) (drop i zs)) ≡ end → t ≡ laid s (field_bytes (get_or all i d) (get_or zs i e)) → laid t (body_bytes (drop (i + 1) fs) (drop (i + 1) zs)) ≡ end
+  pub body-again : (s t end : Slate) → laid s (body_bytes (drop i fs) (drop i zs)) ≡ end → t ≡ laid s (field_bytes f z) → laid t (body_bytes (drop (i + 1) fs) (drop (i + 1) zs)) ≡ end
   body-again s t end h l =
       let rest = body_bytes (drop (i + 1) fs) (drop (i + 1) zs) in
-      ap (λ (x : Slate). laid x rest) l ∙ sym (laid-append s (field_bytes (get_or all i d) (get_or zs i e)) rest) ∙ ap (laid s) (sym body-here) ∙ h
+      let e : body_bytes (drop i fs) (drop i zs) ≡ field_bytes f z ++ rest = rw (fi none, zi (pos 0)) (body-drop fs zs i none (pos 0) p q) in
+      ap (λ (x : Slate). laid x rest) l ∙ sym (laid-append s (field_bytes f z) rest) ∙ ap (laid s) (sym e) ∙ h
 
 pub body-done : (fs : List Field) (zs : List ℤ) (i : ℕ) (s end : Slate) → length fs ≤ i → laid s (body_bytes (drop i fs) (drop i zs)) ≡ end → s ≡ end
 unfolding laid body_bytes
@@ -235,3 +220,27 @@ unfolding record_bytes
 record_whole k zs xs at b mid m s f p e =
     let body = body_bytes (fields_of k) zs in
     e ∙ ap (λ (x : Slate). laid x body) (laid_one xs at b mid m p) ∙ sym (laid-append (xs, at) (b ∷ []) body) ∙ ap (λ (x : ℕ). laid (xs, at) (x ∷ body)) f
+
+-- ---- fields and numbers pair by pair
+pub taken_zip : (fs : List Field) (zs : List ℤ) → length fs ≡ length zs → AllWithin (λ p. takes p.0 p.1 ≡ true) (zip fs zs) 0 (length (zip fs zs)) → true ≡ takes_all fs zs
+unfolding takes_all
+taken_zip [] [] e h = refl
+taken_zip [] (z ∷ zs) e h = absurd (omega arith)
+taken_zip (f ∷ fs) [] e h = absurd (omega arith)
+taken_zip (f ∷ fs) (z ∷ zs) e h =
+    rw (h 0 (f, z) (omega arith) (omega arith)) (taken_zip fs zs (omega arith) (λ k d a b. h (suc k) d (omega arith) (omega arith)))
+
+pub untaken_zip : (fs : List Field) (zs : List ℤ) (k : ℕ) → k < length (zip fs zs) → HoldsAt (λ p. takes p.0 p.1 ≡ false) (zip fs zs) k → false ≡ takes_all fs zs
+unfolding takes_all
+untaken_zip [] zs k a h = absurd (omega arith)
+untaken_zip (f ∷ fs) [] k a h = absurd (omega arith)
+untaken_zip (f ∷ fs) (z ∷ zs) zero a h = rw (h (f, z)) refl
+untaken_zip (f ∷ fs) (z ∷ zs) (suc k) a h = go (takes f z) (untaken_zip fs zs k (omega arith) h)
+  where
+    go : (b : Bool) → false ≡ takes_all fs zs → false ≡ cond b (takes_all fs zs) false
+    go true e = e
+    go false e = refl
+
+pub takes_zip : (fs : List Field) (zs : List ℤ) (r : Bool) → length fs ≡ length zs → MatchBool r (AllWithin (λ p. takes p.0 p.1 ≡ true) (zip fs zs) 0 (length (zip fs zs))) ((k : ℕ) × (k < length (zip fs zs)) × HoldsAt (λ p. takes p.0 p.1 ≡ false) (zip fs zs) k) → r ≡ takes_all fs zs
+takes_zip fs zs true e h = taken_zip fs zs e h
+takes_zip fs zs false e (k, a, h) = untaken_zip fs zs k a h

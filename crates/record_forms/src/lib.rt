@@ -1,7 +1,7 @@
 // The fields of each kind of record, and a record's numbers as its bytes: SPEC, "Records".
 #![tactic(auto)]
 
-ghost use Rattle.std.specs.Prelude.{◌≡◌, true, cond, ◌-◌, ◌%◌, ◌^◌, ◌<◌, ltb, length, take};
+ghost use Rattle.std.specs.Prelude.{◌≡◌, true, cond, ◌-◌, ◌%◌, ◌^◌, ◌<◌, ltb, length};
 ghost use Rattle.std.specs.Int.Signed.{mag};
 ghost use Rattle.record_forms.specs.Forms.{fields_of, kind_byte, takes as takesOf, takes_all, field_bytes, body_bytes, record_bytes};
 ghost use Rattle.record_forms.specs.Laid.{Laid};
@@ -13,13 +13,6 @@ use record_kinds::Kind;
 pub struct Field {
     pub signed: bool,
     pub size: usize,
-}
-
-// The fields of a body, in their order: the first `count`.
-#[derive(Clone, Copy)]
-pub struct Form {
-    pub fields: [Field; 8],
-    pub count: usize,
 }
 
 const U1: Field = Field {
@@ -47,38 +40,20 @@ const I4: Field = Field {
     size: 4,
 };
 
-pub fn form_of(kind: Kind) -> Form
-    ensures { (take result.count result.fields ≡ fields_of kind) × (result.count ≡ length (fields_of kind)) × (result.count < 9) }
+// The fields of a body, in their order.
+#[tactic(auto, unfolding(crate::specs::Forms::fields_of))]
+pub fn form_of(kind: Kind) -> &'static [Field]
+    ensures is { result.now ≡ fields_of kind }
+    ensures few { length result.now < 9 }
 {
     match kind {
-        Kind::Scale => Form {
-            fields: [U1; 8],
-            count: 1,
-        },
-        Kind::Rectangle => Form {
-            fields: [U2, I4, I4, I4, I4, I4, I4, I4],
-            count: 5,
-        },
-        Kind::Ellipse => Form {
-            fields: [U2, I4, I4, U2, I2, U2, U4, U4],
-            count: 7,
-        },
-        Kind::Operator => Form {
-            fields: [I2; 8],
-            count: 8,
-        },
-        Kind::Slice => Form {
-            fields: [U2, I2, I2, I4, I4, I4, I4, I4],
-            count: 4,
-        },
-        Kind::Selection => Form {
-            fields: [U1; 8],
-            count: 1,
-        },
-        Kind::Unknown => Form {
-            fields: [U1; 8],
-            count: 0,
-        },
+        Kind::Scale => &[U1],
+        Kind::Rectangle => &[U2, I4, I4, I4, I4],
+        Kind::Ellipse => &[U2, I4, I4, U2, I2, U2, U4],
+        Kind::Operator => &[I2; 8],
+        Kind::Slice => &[U2, I2, I2, I4],
+        Kind::Selection => &[U1],
+        Kind::Unknown => &[],
     }
 }
 
@@ -86,20 +61,8 @@ pub fn form_of(kind: Kind) -> Form
 pub fn takes_all(kind: Kind, numbers: &[i64]) -> bool
     ensures { result ≡ takes_all (fields_of kind) numbers.now }
 {
-    let form = form_of(kind);
-    let count = form.count;
-    if count != numbers.len() {
-        return false;
-    }
-    let mut i = 0;
-    while i < count {
-        let f = form.fields[i];
-        if !takes(f, numbers[i]) {
-            return false;
-        }
-        i += 1;
-    }
-    true
+    let fields = form_of(kind);
+    fields.len() == numbers.len() && fields.iter().zip(numbers).all(|(f, z)| takes(*f, *z))
 }
 
 // Whether a field has room for a number.
@@ -119,11 +82,8 @@ fn takes(f: Field, z: i64) -> bool
 fn size_of(z: i64) -> u64
     ensures { (result ≡ mag z) × (result < 2 ^ 63) }
 {
-    let n = integers::abs(z);
-    if z < 0 {
-        return n - 1;
-    }
-    n
+    let n = z.unsigned_abs();
+    if z < 0 { n - 1 } else { n }
 }
 
 // Whether v has at most `size` bytes.
@@ -131,10 +91,8 @@ fn below(v: u64, size: usize) -> bool
     ensures { result ≡ ltb v (256 ^ size) }
 {
     let mut w = v;
-    let mut i = 0;
-    while i < size {
-        w = w / 256;
-        i += 1;
+    for _ in 0..size {
+        w /= 256;
     }
     w == 0
 }
@@ -166,14 +124,9 @@ fn put_body(out: &mut [u8], at: usize, kind: Kind, numbers: &[i64]) -> usize
     requires { takes_all (fields_of kind) numbers.now ≡ true }
     ensures { Laid out.old at (body_bytes (fields_of kind) numbers.now) out.new result }
 {
-    let form = form_of(kind);
-    let count = form.count;
     let mut a = at;
-    let mut i = 0;
-    while i < count {
-        let f = form.fields[i];
-        a = put_number(out, a, f, numbers[i]);
-        i += 1;
+    for (f, z) in form_of(kind).iter().zip(numbers) {
+        a = put_number(out, a, *f, *z);
     }
     a
 }
@@ -183,15 +136,12 @@ fn put_number(out: &mut [u8], at: usize, f: Field, z: i64) -> usize
     requires { takesOf f z ≡ true }
     ensures { Laid out.old at (field_bytes f z) out.new result }
 {
-    let size = f.size;
     let minus = z < 0;
     let mut v = size_of(z);
     let mut a = at;
-    let mut i = 0;
-    while i < size {
+    for _ in 0..f.size {
         a = text::put_byte(out, a, low_byte(minus, v));
-        v = v / 256;
-        i += 1;
+        v /= 256;
     }
     a
 }

@@ -1,5 +1,5 @@
 -- Kinds of records, turns and refusals: SPEC, "Records" and "Refusals".
-use Rattle.std.specs.Prelude.{◌≡◌, refl, Bool, true, false, cond, ℕ, eqb}
+use Rattle.std.specs.Prelude.{◌≡◌, refl, Bool, true, false, cond, ℕ, eqb, Result, Ok, Err}
 use Rattle.std.proofs.Common.{arith, ne_eqb}
 use Rattle.refusals.specs.Refusals.{no_kind, unknown_kind, short, beyond_range, not_positive, odd_parity, not_special, out_of_turn, no_job, after_end, no_direction, no_pattern}
 use Rattle.record_kinds.specs.declared.Kind.{Kind}
@@ -8,8 +8,6 @@ use Rattle.record_kinds.specs.declared.Turn.{Turn}
 use Rattle.record_kinds.specs.declared.Turn.TheVariants as T
 use Rattle.record_kinds.specs.declared.Refusal.{Refusal}
 use Rattle.record_kinds.specs.declared.Refusal.TheVariants.{NoKind, UnknownKind, Short, OutOfRange, NotPositive, OddParity, NotSpecial, OutOfTurn, NoJob, Ended, NoDirection, NoPattern}
-use Rattle.record_kinds.specs.declared.Admission.{Admission}
-use Rattle.record_kinds.specs.declared.Admission.TheVariants as A
 
 -- the number of each refusal (SPEC, "Refusals")
 abbrev pub number : Refusal → ℕ
@@ -115,14 +113,14 @@ is_known K.Operator = true
 is_known K.Selection = true
 is_known K.Unknown = false
 
-unfoldable pub admission_of : (known fits short : Bool) → Admission
-admission_of false fits short = A.Refused UnknownKind
-admission_of true false short = A.Refused OutOfTurn
-admission_of true true true = A.Refused Short
-admission_of true true false = A.Whole
+unfoldable pub admission_of : (known fits short : Bool) → Result Unit Refusal
+admission_of false fits short = Err UnknownKind
+admission_of true false short = Err OutOfTurn
+admission_of true true true = Err Short
+admission_of true true false = (Ok tt)
 
 -- a whole admission is one of a body that is not short
-pub whole_long : (known fits short : Bool) → admission_of known fits short ≡ A.Whole → short ≡ false
+pub whole_long : (known fits short : Bool) → admission_of known fits short ≡ (Ok tt) → short ≡ false
 unfolding admission_of
 whole_long false fits short e = absurd (let z : ◌≡◌ {A = ℕ} 0 1 = cc in omega arith)
 whole_long true false short e = absurd (let z : ◌≡◌ {A = ℕ} 0 1 = cc in omega arith)

@@ -2,7 +2,7 @@
 #![tactic(auto)]
 
 ghost use Rattle.std.specs.Prelude.{◌≡◌};
-ghost use Rattle.record_kinds.specs.Kinds.{number as number_of, admission_of, kind_of, is_known, in_turn, is_scale, is_selection, is_region, is_operators, body_length};
+ghost use Rattle.record_kinds.specs.Kinds.{number as number_of, admission_of, kind_of, is_known, in_turn, is_region, body_length};
 
 // What the first byte of a record says.
 #[derive(Clone, Copy)]
@@ -64,31 +64,25 @@ impl Refusal {
     }
 }
 
-// Whether a body is read, or what is refused before.
-#[derive(Clone, Copy)]
-pub enum Admission {
-    Refused(Refusal),
-    Whole,
-}
-
 // What is refused before the body is read, in the order 2, 8, 3.
 #[tactic(auto, unfolding(crate::specs::Kinds::admission_of))]
-pub fn admit(known: bool, fits: bool, short: bool) -> Admission
+pub fn admit(known: bool, fits: bool, short: bool) -> Result<(), Refusal>
     ensures { result ≡ admission_of known fits short }
 {
     if !known {
-        return Admission::Refused(Refusal::UnknownKind);
+        return Err(Refusal::UnknownKind);
     }
     if !fits {
-        return Admission::Refused(Refusal::OutOfTurn);
+        return Err(Refusal::OutOfTurn);
     }
     if short {
-        return Admission::Refused(Refusal::Short);
+        return Err(Refusal::Short);
     }
-    Admission::Whole
+    Ok(())
 }
 
 // The kind that a first byte names.
+#[tactic(auto, unfolding(crate::specs::Kinds::kind_of))]
 pub fn kind_of(b: u8) -> Kind
     ensures { result ≡ kind_of b }
 {
@@ -107,15 +101,7 @@ pub fn kind_of(b: u8) -> Kind
 pub fn is_known(kind: Kind) -> bool
     ensures { result ≡ is_known kind }
 {
-    match kind {
-        Kind::Scale => true,
-        Kind::Rectangle => true,
-        Kind::Ellipse => true,
-        Kind::Slice => true,
-        Kind::Operator => true,
-        Kind::Selection => true,
-        Kind::Unknown => false,
-    }
+    !matches!(kind, Kind::Unknown)
 }
 
 // Whether a kind stands in its turn.
@@ -123,62 +109,18 @@ pub fn in_turn(kind: Kind, turn: Turn) -> bool
     ensures { result ≡ in_turn kind turn }
 {
     match kind {
-        Kind::Scale => is_scale(turn),
-        Kind::Rectangle => is_region(turn),
-        Kind::Ellipse => is_region(turn),
-        Kind::Slice => is_region(turn),
-        Kind::Operator => is_operators(turn),
-        Kind::Selection => is_selection(turn),
+        Kind::Scale => matches!(turn, Turn::Scale),
+        Kind::Rectangle | Kind::Ellipse | Kind::Slice => is_region(turn),
+        Kind::Operator => matches!(turn, Turn::Operators),
+        Kind::Selection => matches!(turn, Turn::Selection),
         Kind::Unknown => false,
-    }
-}
-
-fn is_scale(turn: Turn) -> bool
-    ensures { result ≡ is_scale turn }
-{
-    match turn {
-        Turn::Scale => true,
-        Turn::Selection => false,
-        Turn::First => false,
-        Turn::Second => false,
-        Turn::Operators => false,
-    }
-}
-
-fn is_selection(turn: Turn) -> bool
-    ensures { result ≡ is_selection turn }
-{
-    match turn {
-        Turn::Scale => false,
-        Turn::Selection => true,
-        Turn::First => false,
-        Turn::Second => false,
-        Turn::Operators => false,
     }
 }
 
 fn is_region(turn: Turn) -> bool
     ensures { result ≡ is_region turn }
 {
-    match turn {
-        Turn::Scale => false,
-        Turn::Selection => true,
-        Turn::First => true,
-        Turn::Second => true,
-        Turn::Operators => false,
-    }
-}
-
-fn is_operators(turn: Turn) -> bool
-    ensures { result ≡ is_operators turn }
-{
-    match turn {
-        Turn::Scale => false,
-        Turn::Selection => false,
-        Turn::First => false,
-        Turn::Second => false,
-        Turn::Operators => true,
-    }
+    matches!(turn, Turn::Selection | Turn::First | Turn::Second)
 }
 
 // How many bytes come after the kind.

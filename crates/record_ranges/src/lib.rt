@@ -32,10 +32,10 @@ pub fn rectangle(n: u16, xl: i32, xh: i32, yl: i32, yh: i32) -> bool
     ensures { result ≡ rectangle n xl xh yl yh }
 {
     between(1, TOP_N, n)
-        & within(TOP_COORDINATE, xl)
-        & within(TOP_COORDINATE, xh)
-        & within(TOP_COORDINATE, yl)
-        & within(TOP_COORDINATE, yh)
+        && within(TOP_COORDINATE, xl)
+        && within(TOP_COORDINATE, xh)
+        && within(TOP_COORDINATE, yl)
+        && within(TOP_COORDINATE, yh)
 }
 
 // Whether an ellipse's numbers are in range.
@@ -43,21 +43,21 @@ pub fn ellipse(n: u16, cx: i32, cy: i32, p: u16, q: i16, r: u16, s: u32) -> bool
     ensures { result ≡ ellipse n cx cy p q r s }
 {
     between(1, TOP_N, n)
-        & within(TOP_COORDINATE, cx)
-        & within(TOP_COORDINATE, cy)
-        & between(1, TOP_COEFFICIENT, p)
-        & within_short(TOP_COEFFICIENT, q)
-        & between(1, TOP_COEFFICIENT, r)
-        & (s <= TOP_S)
+        && within(TOP_COORDINATE, cx)
+        && within(TOP_COORDINATE, cy)
+        && between(1, TOP_COEFFICIENT, p)
+        && within_short(TOP_COEFFICIENT, q)
+        && between(1, TOP_COEFFICIENT, r)
+        && s <= TOP_S
 }
 
 // PR − Q².
 pub fn discriminant(p: u16, q: i16, r: u16) -> i64
     ensures { result ≡ discriminant p q r }
 {
-    let p = p as i64;
-    let q = q as i64;
-    let r = r as i64;
+    let p = i64::from(p);
+    let q = i64::from(q);
+    let r = i64::from(r);
     p * r - q * q
 }
 
@@ -72,14 +72,14 @@ pub fn positive(p: u16, q: i16, r: u16) -> bool
 pub fn slice(n: u16, zx: i16, zy: i16, w: i32) -> bool
     ensures { result ≡ slice n zx zy w }
 {
-    between(1, TOP_N, n) & within_short(TOP_Z, zx) & within_short(TOP_Z, zy) & within(TOP_W, w)
+    between(1, TOP_N, n) && within_short(TOP_Z, zx) && within_short(TOP_Z, zy) && within(TOP_W, w)
 }
 
 // Whether zx and zy are a direction: not both are 0.
 pub fn directed(zx: i16, zy: i16) -> bool
     ensures { result ≡ directed zx zy }
 {
-    1 <= integers::abs(zx as i64) + integers::abs(zy as i64)
+    zx != 0 || zy != 0
 }
 
 // Four numbers of an operator.
@@ -87,25 +87,25 @@ pub fn entries(a: i16, b: i16, c: i16, d: i16) -> bool
     ensures { result ≡ entries a b c d }
 {
     within_short(TOP_ENTRY, a)
-        & within_short(TOP_ENTRY, b)
-        & within_short(TOP_ENTRY, c)
-        & within_short(TOP_ENTRY, d)
+        && within_short(TOP_ENTRY, b)
+        && within_short(TOP_ENTRY, c)
+        && within_short(TOP_ENTRY, d)
 }
 
 fn between(lo: u16, hi: u16, n: u16) -> bool
     ensures { result ≡ between lo hi n }
 {
-    (lo <= n) & (n <= hi)
+    lo <= n && n <= hi
 }
 
 fn within(m: u32, z: i32) -> bool
     ensures { result ≡ within m z }
 {
-    integers::abs(z as i64) <= m as u64
+    z.unsigned_abs() <= m
 }
 
 fn within_short(m: u16, z: i16) -> bool
     ensures { result ≡ within m z }
 {
-    within(m as u32, z as i32)
+    within(u32::from(m), i32::from(z))
 }

@@ -1,16 +1,16 @@
 -- A reading that is accepted took a whole record, and its numbers are those that a line of words says. Assumes nothing.
-use Rattle.std.specs.Prelude.{◌≡◌, refl, Bool, cond, List, [], ◌∷◌, eqb, leb, ltb, pos, length}
+use Rattle.std.specs.Prelude.{◌≡◌, refl, Bool, cond, List, [], ◌∷◌, eqb, leb, ltb, pos, length, Result, Ok, Err}
 use Rattle.std.proofs.Common.{ap, inl, inr, arith, eqb-true, ltb-false, le-leb}
 use Rattle.std.proofs.Math.Bool.{true, false}
 use Prim.Native.Nat.{ℕ, suc, ◌≤◌}
 use Rattle.region.specs.declared.Region.{Region}
 use Rattle.region.specs.declared.Region.TheVariants as Shape
-use Rattle.region.specs.declared.Check as RegionCheck
-use Rattle.region.specs.declared.Check.TheVariants as R
+use Rattle.region.specs.declared.Refusal as RegionCheck
+use Rattle.region.specs.declared.Refusal.TheVariants as R
 use Rattle.region.specs.Region as Reg
 use Rattle.operator.specs.declared.Operator.{Operator}
-use Rattle.operator.specs.declared.Check as OperatorCheck
-use Rattle.operator.specs.declared.Check.TheVariants as O
+use Rattle.operator.specs.declared.Refusal as OperatorCheck
+use Rattle.operator.specs.declared.Refusal.TheVariants as O
 use Rattle.operator.specs.Operator as Op
 use Rattle.record_kinds.specs.declared.Kind.{Kind}
 use Rattle.record_kinds.specs.declared.Kind.TheVariants as K
@@ -33,17 +33,17 @@ Good k s (Accepted x n) = (n ≡ suc (body_length k)) × Chosen k (numbers_at (f
 Good k s (Refused f) = Unit {0}
 
 module _ (s : List ℕ) where
-  region-good : (k : Kind) → Chosen k (numbers_at (fields_of k) s 0) → (c : RegionCheck.Check) (r : Region) → Good k s (region_reading c r (suc (body_length k)))
-  region-good k h R.Accepted r = (refl, h)
-  region-good k h R.OutOfRange r = tt
-  region-good k h R.NotPositive r = tt
-  region-good k h R.NoDirection r = tt
+  region-good : (k : Kind) → Chosen k (numbers_at (fields_of k) s 0) → (c : Result Unit RegionCheck.Refusal) (r : Region) → Good k s (region_reading c r (suc (body_length k)))
+  region-good k h (Ok tt) r = (refl, h)
+  region-good k h (Err R.OutOfRange) r = tt
+  region-good k h (Err R.NotPositive) r = tt
+  region-good k h (Err R.NoDirection) r = tt
 
-  operator-good : (c : OperatorCheck.Check) (g : Operator) → Good K.Operator s (operator_reading c g 17)
-  operator-good O.Special g = (refl, tt)
-  operator-good O.OutOfRange g = tt
-  operator-good O.OddParity g = tt
-  operator-good O.NotSpecial g = tt
+  operator-good : (c : Result Unit OperatorCheck.Refusal) (g : Operator) → Good K.Operator s (operator_reading c g 17)
+  operator-good (Ok tt) g = (refl, tt)
+  operator-good (Err O.OutOfRange) g = tt
+  operator-good (Err O.OddParity) g = tt
+  operator-good (Err O.NotSpecial) g = tt
 
   scale-good : Good K.Scale s (scale_of s)
   unfolding scale_of

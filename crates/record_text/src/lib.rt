@@ -18,6 +18,7 @@ pub fn put(out: &mut [u8], bytes: &[u8]) -> usize
 {
     let mut at = 0;
     let mut end = 0;
+    // A while: the step is not one, it is past the record.
     while at < bytes.len() {
         let kind = record_kinds::kind_of(bytes[at]);
         at += 1;
@@ -34,11 +35,7 @@ pub fn put(out: &mut [u8], bytes: &[u8]) -> usize
 fn is_whole(kind: Kind, left: usize) -> bool
     ensures { result ≡ is_whole kind left }
 {
-    if record_kinds::is_known(kind) {
-        record_kinds::body_length(kind) <= left
-    } else {
-        false
-    }
+    record_kinds::is_known(kind) && record_kinds::body_length(kind) <= left
 }
 
 // The line of a record, whose body is all there.
@@ -73,19 +70,16 @@ fn put_rest(out: &mut [u8], at: usize, kind: Kind, numbers: &[i64]) -> usize
     ensures { ◌≡◌ {A = Slate} (out.new, result) (puts (out.old, at) (rest_texts kind numbers.now)) }
 {
     match kind {
-        Kind::Scale => put_numbers(out, at, numbers),
-        Kind::Rectangle => put_numbers(out, at, numbers),
-        Kind::Ellipse => put_numbers(out, at, numbers),
-        Kind::Operator => put_numbers(out, at, numbers),
-        Kind::Slice => put_numbers(out, at, numbers),
         Kind::Selection => put_selection(out, at, numbers),
         Kind::Unknown => at,
+        _ => put_numbers(out, at, numbers),
     }
 }
 
 fn put_selection(out: &mut [u8], at: usize, numbers: &[i64]) -> usize
     ensures { ◌≡◌ {A = Slate} (out.new, result) (puts (out.old, at) (selection_texts numbers.now)) }
 {
+    // No pattern [0]: of such a pattern a proof knows the length alone.
     if numbers.len() != 1 {
         return put_numbers(out, at, numbers);
     }
@@ -101,11 +95,9 @@ fn put_numbers(out: &mut [u8], at: usize, numbers: &[i64]) -> usize
     ensures { ◌≡◌ {A = Slate} (out.new, result) (puts (out.old, at) (numbers_texts numbers.now)) }
 {
     let mut a = at;
-    let mut i = 0;
-    while i < numbers.len() {
+    for z in numbers {
         a = text::put_byte(out, a, b' ');
-        a = text::put_signed(out, a, numbers[i]);
-        i += 1;
+        a = text::put_signed(out, a, *z);
     }
     a
 }

@@ -22,9 +22,6 @@ impl Rectangle {
     fn is_reversed(self) -> bool
         ensures { result ≡ is_reversed self }
     {
-        if self.xh < self.xl {
-            return true;
-        }
-        self.yh < self.yl
+        self.xh < self.xl || self.yh < self.yl
     }
 }

@@ -38,6 +38,7 @@ fn point(s: Slice, u: i16, v: i16, d: i64) -> i64
     }
     let w = integers::abs(s.w as i64);
     let h = quotient(multiplied(s.n, inner(u, v, s.zx, s.zy)), w);
+    // No min: the proof rests on the test.
     if h < d { h } else { d }
 }
 
@@ -56,5 +57,6 @@ fn sum(s: Slice, u: i16, v: i16, p: u64, q: u64, d: i64) -> i64
     }
     let m = length(s.n, a, b);
     let h = quotient(less(m, p, s.w), q);
+    // No min: the proof rests on the test.
     if h < d { h } else { d }
 }

@@ -5,7 +5,7 @@ ghost use Rattle.std.specs.Prelude.{◌≡◌};
 ghost use Rattle.region.specs.Selection.{is_new, selects};
 
 use region::Job;
-use ring::{Point, Quotient};
+use ring::Point;
 
 // Whether v/√2^k has the exponent k: at 0 each has, else those that √2 does not divide.
 pub fn is_new(k: u8, v: Point) -> bool
@@ -15,8 +15,8 @@ pub fn is_new(k: u8, v: Point) -> bool
         return true;
     }
     match v.divide_root2() {
-        Quotient::Whole(_) => false,
-        Quotient::NotInRing => true,
+        Some(_) => false,
+        None => true,
     }
 }
 
@@ -24,8 +24,5 @@ pub fn is_new(k: u8, v: Point) -> bool
 pub fn selects(job: Job, v: Point) -> bool
     ensures { result ≡ selects job v }
 {
-    if job.all {
-        return true;
-    }
-    is_new(job.k, v)
+    job.all || is_new(job.k, v)
 }

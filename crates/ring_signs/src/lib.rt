@@ -15,25 +15,14 @@ pub use wide::wide_sign_of;
 pub fn sign_of(p: i64, q: i64) -> Sign
     ensures { Signs p q result }
 {
-    let a = integers::abs(p);
-    let b = integers::abs(q);
-    if integers::is_nonneg(p) {
-        if integers::is_nonneg(q) {
-            if a == 0 {
-                if b == 0 {
-                    return Sign::Zero;
-                }
-            }
-            Sign::Plus
-        } else {
-            gap_sign(a, b)
-        }
-    } else {
-        if integers::is_nonneg(q) {
-            turned(gap_sign(a, b))
-        } else {
-            Sign::Minus
-        }
+    let a = p.unsigned_abs();
+    let b = q.unsigned_abs();
+    match (0 <= p, 0 <= q) {
+        (true, true) if a == 0 && b == 0 => Sign::Zero,
+        (true, true) => Sign::Plus,
+        (true, false) => gap_sign(a, b),
+        (false, true) => turned(gap_sign(a, b)),
+        (false, false) => Sign::Minus,
     }
 }
 
@@ -41,8 +30,8 @@ pub fn sign_of(p: i64, q: i64) -> Sign
 pub fn near_sign_of(p: i64, q: i64) -> Sign
     ensures { Signs p q result }
 {
-    let a = integers::abs(p);
-    let b = integers::abs(q);
+    let a = p.unsigned_abs();
+    let b = q.unsigned_abs();
     if 4611686018427387904 <= b {
         return sign_of(p, q);
     }
@@ -68,11 +57,7 @@ fn root_times(b: u64) -> u64
 fn sign_of_part(z: i64) -> Sign
     ensures { result ≡ of_part z }
 {
-    if integers::is_nonneg(z) {
-        Sign::Plus
-    } else {
-        Sign::Minus
-    }
+    if 0 <= z { Sign::Plus } else { Sign::Minus }
 }
 
 pub(crate) fn turned(s: Sign) -> Sign
@@ -92,6 +77,7 @@ pub(crate) fn gap_sign(a: u64, b: u64) -> Sign
     let mut x = a;
     let mut y = b;
     let mut odd = false;
+    // A while: the step is a round, as Euclid's are.
     while y < x {
         let e = x - y;
         if y <= e {

@@ -14,23 +14,12 @@ pub fn wide_sign_of(p: Wide, q: Wide) -> Sign
 {
     let a = p.size();
     let b = q.size();
-    if p.is_nonneg() {
-        if q.is_nonneg() {
-            if a.is_zero() {
-                if b.is_zero() {
-                    return Sign::Zero;
-                }
-            }
-            Sign::Plus
-        } else {
-            wide_gap_sign(a, b)
-        }
-    } else {
-        if q.is_nonneg() {
-            turned(wide_gap_sign(a, b))
-        } else {
-            Sign::Minus
-        }
+    match (p.is_nonneg(), q.is_nonneg()) {
+        (true, true) if a.is_zero() && b.is_zero() => Sign::Zero,
+        (true, true) => Sign::Plus,
+        (true, false) => wide_gap_sign(a, b),
+        (false, true) => turned(wide_gap_sign(a, b)),
+        (false, false) => Sign::Minus,
     }
 }
 
@@ -38,7 +27,7 @@ pub fn wide_sign_of(p: Wide, q: Wide) -> Sign
 fn are_short(x: Size, y: Size) -> bool
     ensures { result ≡ both_short x y }
 {
-    if x.hi == 0 { y.hi == 0 } else { false }
+    x.hi == 0 && y.hi == 0
 }
 
 // The sign of a − b√2.
@@ -48,6 +37,7 @@ fn wide_gap_sign(a: Size, b: Size) -> Sign
     let mut x = a;
     let mut y = b;
     let mut odd = false;
+    // A while: the step is a round. The rounds stand at both widths, since those of one word are the faster ones.
     while !are_short(x, y) {
         if !y.is_below(x) {
             return plus(!odd);

@@ -1,12 +1,11 @@
 -- What a session remembers, and the image question, for every run of the code's calls (SPEC, "Operators" and "Questions"): the session remembers the last operator that a caller had
 -- accepted, and the question says yes if and only if w is what that operator makes of a selected solution.
-use Rattle.std.specs.Prelude.{◌≡◌, Bool, true, List, [], ◌↔◌}
+use Rattle.std.specs.Prelude.{◌≡◌, Bool, true, List, [], ◌↔◌, Ok}
 use Rattle.std.proofs.Common.{sym, ap, ◌∙◌}
 use Rattle.ring.specs.declared.Point.{Point}
 use Rattle.region.specs.declared.Job.{Job}
 use Rattle.region.specs.Selection.{listed-parts, is_listed}
 use Rattle.operator.specs.declared.Operator.{Operator}
-use Rattle.operator.specs.declared.Check.TheVariants.{Special}
 use Rattle.operator.specs.Operator.{identity, check_of, image_of}
 use Rattle.session_model.specs.Session as Model
 use Rattle.session_model.specs.Remembered.{operator_of, last_accepted}
@@ -30,7 +29,7 @@ pub run-remembers : {ms : List Made} {t : Session} → Run ms t → operator_of 
 run-remembers {ms} r = rw (from-exchanges r, from-after r) (session-remembers (calls_of ms))
 
 -- it passed the test
-pub run-special : {ms : List Made} {t : Session} → Run ms t → check_of (last_operator ms) ≡ Special
+pub run-special : {ms : List Made} {t : Session} → Run ms t → check_of (last_operator ms) ≡ (Ok tt)
 run-special {ms} r = ap check_of (sym (run-remembers r)) ∙ rw (from-after r) (remembered-special (calls_of ms))
 
 -- a point that solves the job and is selected, which the operator sends to w

@@ -9,16 +9,14 @@ ghost use Rattle.session_stages.specs.Session.{course_of, EmptyIf, Gives};
 
 use operator::Operator;
 use session_stages::{Answer, Course, Outcome, Session, Stage, place};
-use walk::Spot;
 
 // With a job: after the end was reported it is refused.
 pub(crate) fn from_course(c: Course, out: &mut [i32]) -> Outcome
     ensures { Gives (step world (handOut out.old) (course_of c)) out.old out.new result.session result.answer }
 {
-    let p = c.spot;
-    match p {
-        Spot::At(_) => from_spot(c, out),
-        Spot::Ended => place::after_end(c),
+    match c.spot {
+        Some(_) => from_spot(c, out),
+        None => place::after_end(c),
     }
 }
 
@@ -26,15 +24,9 @@ pub(crate) fn from_course(c: Course, out: &mut [i32]) -> Outcome
 fn is_empty(c: Course) -> bool
     ensures { EmptyIf c result }
 {
-    let p = c.spot;
-    match p {
-        Spot::At(v) => {
-            if place::is_least(v) {
-                return !question::has_solution(c.job, Operator::IDENTITY);
-            }
-            false
-        }
-        Spot::Ended => false,
+    match c.spot {
+        Some(v) => place::is_least(v) && !question::has_solution(c.job, Operator::IDENTITY),
+        None => false,
     }
 }
 
@@ -45,18 +37,11 @@ fn from_spot(c: Course, out: &mut [i32]) -> Outcome
     if is_empty(c) {
         return place::at_end(c);
     }
-    let job = c.job;
-    let operator = c.operator;
-    let from = c.spot;
-    let h = walk::hand_out(job, from, out);
+    let h = walk::hand_out(c.job, c.spot, out);
     let spot = h.spot;
     Outcome {
         session: Session {
-            stage: Stage::Walking(Course {
-                job: job,
-                spot: spot,
-                operator: operator,
-            }),
+            stage: Stage::Walking(Course { spot, ..c }),
         },
         answer: Answer::Handed(h.count, place::is_ended(spot)),
     }

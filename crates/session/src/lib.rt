@@ -18,8 +18,7 @@ pub fn hand_out(s: Session, out: &mut [i32]) -> Outcome
     ensures hands { Hands s out.old out.new result.session result.answer }
     ensures fits { Fits result.session.stage }
 {
-    let g = s.stage;
-    match g {
+    match s.stage {
         Stage::Early(_) => session_stages::no_job(s),
         Stage::Walking(c) => hand::from_course(c, out),
     }
@@ -30,8 +29,7 @@ pub fn rewind(s: Session) -> Outcome
     ensures steps { Steps rewind [] s result.session result.answer }
     ensures fits { Fits result.session.stage }
 {
-    let g = s.stage;
-    match g {
+    match s.stage {
         Stage::Early(_) => session_stages::no_job(s),
         Stage::Walking(c) => session_stages::place::rewound(c),
     }
@@ -41,8 +39,7 @@ pub fn rewind(s: Session) -> Outcome
 pub fn has_solution(s: Session) -> Answer
     ensures { Steps plain [] s s result }
 {
-    let g = s.stage;
-    match g {
+    match s.stage {
         Stage::Early(_) => Answer::Refused(Refusal::NoJob),
         Stage::Walking(c) => Answer::Says(question::has_solution(c.job, c.operator)),
     }
@@ -52,8 +49,7 @@ pub fn has_solution(s: Session) -> Answer
 pub fn shortest(s: Session) -> Answer
     ensures { Steps shortest [] s s result }
 {
-    let g = s.stage;
-    match g {
+    match s.stage {
         Stage::Early(_) => Answer::Refused(Refusal::NoJob),
         Stage::Walking(c) => session_stages::tell_pattern(pattern_shortest::of_job(c.job)),
     }

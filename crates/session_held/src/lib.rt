@@ -2,6 +2,7 @@
 #![tactic(auto)]
 
 ghost use Rattle.std.specs.Prelude.{[], ◌≡◌};
+ghost use Rattle.std.specs.Fn.{FnOnceReturnsAtMut};
 ghost use Rattle.session_model.specs.Session.{reading, rewind as rewinding, clear as clearing, plain, image_of, shortest as shortestOf};
 ghost use Rattle.session_stages.specs.Session.{Steps};
 ghost use Rattle.session_tallying.specs.Tallied.{Moves, Deals};
@@ -11,27 +12,32 @@ use session::Answer;
 use session_tallied::{Outcome, Tallied};
 use session_tally::Tally;
 
+// A call on the session, which is lent for it.
+fn lending<F: FnOnce(&mut Tallied) -> Answer>(mut s: Tallied, call: F) -> Outcome
+    requires { F.IsAlwaysCallable call }
+    ensures { FnOnceReturnsAtMut F.FnOnce call s result.answer result.session }
+{
+    let answer = call(&mut s);
+    Outcome { session: s, answer }
+}
+
 // One reading: a record from the front of the bytes joins the session, or is refused.
 pub fn read(s: Tallied, bytes: &[u8]) -> Outcome
     ensures { Moves (reading bytes.now) [] s result.session result.answer }
 {
-    let mut left = s;
-    let answer = session_lent::read(&mut left, bytes);
-    Outcome {
-        session: left,
-        answer: answer,
-    }
+    lending(s, |t| session_lent::read(t, bytes))
 }
 
 // A hand-out: as many of the next listed points as the slice has space for.
 pub fn hand_out(s: Tallied, out: &mut [i32]) -> Outcome
     ensures { Deals s out.old out.new result.session result.answer }
 {
+    // Not by `lending`: its promise leaves open what a call writes to a slice that it holds.
     let mut left = s;
     let answer = session_lent::hand_out(&mut left, out);
     Outcome {
         session: left,
-        answer: answer,
+        answer,
     }
 }
 
@@ -39,24 +45,14 @@ pub fn hand_out(s: Tallied, out: &mut [i32]) -> Outcome
 pub fn rewind(s: Tallied) -> Outcome
     ensures { Moves rewinding [] s result.session result.answer }
 {
-    let mut left = s;
-    let answer = session_lent::rewind(&mut left);
-    Outcome {
-        session: left,
-        answer: answer,
-    }
+    lending(s, session_lent::rewind)
 }
 
 // A fresh session again.
 pub fn clear(s: Tallied) -> Outcome
     ensures { Moves clearing [] s result.session result.answer }
 {
-    let mut left = s;
-    let answer = session_lent::clear(&mut left);
-    Outcome {
-        session: left,
-        answer: answer,
-    }
+    lending(s, session_lent::clear)
 }
 
 // Whether the job lists a point.

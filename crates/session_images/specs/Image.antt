@@ -1,11 +1,10 @@
 -- The image question: SPEC, "Questions". It says yes if and only if w is the image of a listed point under the remembered operator.
-use Rattle.std.specs.Prelude.{◌≡◌, refl, true, ◌↔◌}
+use Rattle.std.specs.Prelude.{◌≡◌, refl, true, ◌↔◌, Ok}
 use Rattle.std.proofs.Common.{sym, ap, ◌∙◌}
 use Rattle.ring.specs.declared.Point.{Point}
 use Rattle.region.specs.declared.Job.{Job}
 use Rattle.region.specs.Selection.{listed}
 use Rattle.operator.specs.declared.Operator.{Operator}
-use Rattle.operator.specs.declared.Check.TheVariants.{Special}
 use Rattle.operator.specs.Operator.{check_of, image_of, det_whole}
 use Rattle.operator.specs.Inverse.{adjugate, times, inverse_of}
 use Rattle.operator.specs.lemmas.Undoes.{inverse_special, undoes}
@@ -17,7 +16,7 @@ pub record Sent (j : Job) (g : Operator) (w : Point) : Type 0 where
   pub lists : listed j from ≡ true
   pub image : image_of g from ≡ w
 
-pub image-yes : (j : Job) (g : Operator) (w : Point) → check_of g ≡ Special → (is_image j g w ≡ true) ↔ Sent j g w
+pub image-yes : (j : Job) (g : Operator) (w : Point) → check_of g ≡ (Ok tt) → (is_image j g w ≡ true) ↔ Sent j g w
 unfolding is_image
 image-yes j g w s =
     let h = times (det_whole g) (adjugate g) in

@@ -8,7 +8,7 @@ ghost use Rattle.session_model.specs.Session.{image_of};
 ghost use Rattle.session_stages.specs.World.{is_image};
 ghost use Rattle.session_stages.specs.Session.{Steps};
 
-use operator::{Inverse, Narrowed, Operator, WidePoint};
+use operator::{Operator, WidePoint};
 use record::Refusal;
 use region::Job;
 use ring::Point;
@@ -18,8 +18,7 @@ use session_stages::{Answer, Session, Stage};
 pub fn has_image(s: Session, w: Point) -> Answer
     ensures { Steps (image_of w) [] s s result }
 {
-    let g = s.stage;
-    match g {
+    match s.stage {
         Stage::Early(_) => Answer::Refused(Refusal::NoJob),
         Stage::Walking(c) => Answer::Says(is_image(c.job, c.operator, w)),
     }
@@ -29,10 +28,9 @@ pub fn has_image(s: Session, w: Point) -> Answer
 pub fn is_image(job: Job, g: Operator, w: Point) -> bool
     ensures { result ≡ is_image job g w }
 {
-    let i = g.inverse();
-    match i {
-        Inverse::Operator(h) => lists_wide(job, h.image(w)),
-        Inverse::Refused(_) => false,
+    match g.inverse() {
+        Ok(h) => lists_wide(job, h.image(w)),
+        Err(_) => false,
     }
 }
 
@@ -40,9 +38,8 @@ pub fn is_image(job: Job, g: Operator, w: Point) -> bool
 fn lists_wide(job: Job, v: WidePoint) -> bool
     ensures { result ≡ listed job (wide v) }
 {
-    let n = v.narrow();
-    match n {
-        Narrowed::Fits(u) => region_membership::lists(job, u),
-        Narrowed::TooWide => false,
+    match v.narrow() {
+        Some(u) => region_membership::lists(job, u),
+        None => false,
     }
 }

@@ -10,42 +10,42 @@ ghost use Rattle.session_tallying.specs.Tallied.{Moves, Deals};
 use ring::Point;
 use session::Answer;
 use session_tally::Tally;
-use session_tallying::Tallied;
+use session_tallying::{Outcome, Tallied};
+
+// What a call leaves takes the session's place, and its answer is the call's.
+fn leave(o: Outcome, s: &mut Tallied) -> Answer
+    ensures { (s.new ≡ o.session) × (result ≡ o.answer) }
+{
+    *s = o.session;
+    o.answer
+}
 
 // One reading: a record from the front of the bytes joins the session, or is refused.
 pub fn read(s: &mut Tallied, bytes: &[u8]) -> Answer
     ensures { Moves (reading bytes.now) [] s.old s.new result }
 {
-    let r = session_tallied::read(*s, bytes);
-    *s = r.session;
-    r.answer
+    leave(session_tallied::read(*s, bytes), s)
 }
 
 // A hand-out: as many of the next listed points as the slice has space for.
 pub fn hand_out(s: &mut Tallied, out: &mut [i32]) -> Answer
     ensures { Deals s.old out.old out.new s.new result }
 {
-    let r = session_tallied::hand_out(*s, out);
-    *s = r.session;
-    r.answer
+    leave(session_tallied::hand_out(*s, out), s)
 }
 
 // Back before the first point.
 pub fn rewind(s: &mut Tallied) -> Answer
     ensures { Moves rewinding [] s.old s.new result }
 {
-    let r = session_tallied::rewind(*s);
-    *s = r.session;
-    r.answer
+    leave(session_tallied::rewind(*s), s)
 }
 
 // A fresh session again.
 pub fn clear(s: &mut Tallied) -> Answer
     ensures { Moves clearing [] s.old s.new result }
 {
-    let r = session_tallying::clear(*s);
-    *s = r.session;
-    r.answer
+    leave(session_tallying::clear(*s), s)
 }
 
 // Whether the job lists a point.

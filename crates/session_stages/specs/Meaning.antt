@@ -1,9 +1,7 @@
 -- A session's meaning fixes the session: the contracts, which state the meaning of the session that a call leaves, leave no choice of it.
-use Rattle.std.specs.Prelude.{◌≡◌, refl}
+use Rattle.std.specs.Prelude.{◌≡◌, refl, Option, Some, None}
 use Rattle.std.proofs.Common.{sym, ap, ◌∙◌}
 use Rattle.ring.specs.declared.Point.{Point}
-use Rattle.walk_list.specs.declared.Spot.{Spot}
-use Rattle.walk_list.specs.declared.Spot.TheVariants as P
 use Rattle.walk_list.specs.Walk.{point_of, rank_of, spot_of}
 use Rattle.walk_list.proofs.lemmas.Points.{Fits32, point-rank}
 use Rattle.session_stages.specs.declared.Course.{Course}
@@ -14,19 +12,19 @@ use Rattle.session_stages.specs.declared.Session.{Session}
 use Rattle.session_stages.specs.Session.{stage_of, meaning}
 
 -- the place of a walk is a point of signed 32-bit numbers, as in every session of machine numbers; the other fields are what they mean
-pub data SpotFits : Spot → Type 0 where
-  point : {v : Point} → Fits32 v → SpotFits (P.At v)
-  end : SpotFits P.Ended
+pub data SpotFits : Option Point → Type 0 where
+  point : {v : Point} → Fits32 v → SpotFits (Some v)
+  end : SpotFits None
 
 pub data Fits : Stage → Type 0 where
   early : {p : Parts} → Fits (S.Early p)
   walking : {c : Course} → SpotFits c.spot → Fits (S.Walking c)
 
 -- a point of such numbers is the only one of its rank
-pub spot-one : {p q : Spot} → SpotFits p → SpotFits q → spot_of p ≡ spot_of q → p ≡ q
+pub spot-one : {p q : Option Point} → SpotFits p → SpotFits q → spot_of p ≡ spot_of q → p ≡ q
 spot-one (point {v} f) (point {v = w} g) e =
     let r : rank_of v ≡ rank_of w = cc in
-    ap P.At (sym (point-rank v f) ∙ ap point_of r ∙ point-rank w g)
+    ap Some (sym (point-rank v f) ∙ ap point_of r ∙ point-rank w g)
 spot-one (point f) end e = cc
 spot-one end (point g) e = cc
 spot-one end end e = refl

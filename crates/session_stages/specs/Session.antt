@@ -1,6 +1,6 @@
 -- What a session and its answers mean, in the model of `session_model`. Every value of the type has a meaning.
-use Rattle.std.specs.Prelude.{◌≡◌, refl, Bool, true, false, List, [], ℕ, ◌/◌, ℤ, length, drop}
-use Rattle.std.proofs.Common.{sym, ap, ◌∙◌}
+use Rattle.std.specs.Prelude.{◌≡◌, refl, Bool, true, false, List, [], ℕ, ◌/◌, ℤ, length, drop, Some, None, Option as Maybe}
+use Rattle.std.proofs.Common.{ap, ◌∙◌}
 use Rattle.std.proofs.Math.Option.{Option}
 use Rattle.std.proofs.Math.Option as O
 use Rattle.ring.specs.declared.Point.{Point}
@@ -15,8 +15,6 @@ use Rattle.ranks.specs.Rest.{is_ended, left_at}
 use Rattle.ranks.proofs.Rest.{ended-nil}
 use Rattle.ranks.specs.Rank.{top}
 use Rattle.ranks.specs.Handed.{Gave}
-use Rattle.walk_list.specs.declared.Spot.{Spot}
-use Rattle.walk_list.specs.declared.Spot.TheVariants as P
 use Rattle.cuts.specs.Digits.{span}
 use Rattle.walk_list.specs.Walk.{listed_at, numbers_in, spot_of}
 use Rattle.walk.specs.lemmas.Hand.{gave_none}
@@ -36,7 +34,7 @@ course_of c = walking c.job (spot_of c.spot) c.operator
 
 -- the same job at its end
 abbrev pub ended : Course → Course
-ended c = record { job = c.job; spot = P.Ended; operator = c.operator }
+ended c = record { job = c.job; spot = None; operator = c.operator }
 
 abbrev pub stage_of : Stage → Model.Session world
 stage_of (S.Early p) = early p
@@ -150,17 +148,17 @@ reading_outcome (S.Walking c) b = refl
 pub record EmptyIf (c : Course) (r : Bool) : Type 0 where
   pub none : r ≡ true → left_at (listed_at c.job) (top span) (spot_of c.spot) ≡ []
 
-pub gave_gives : (c : Course) (spot : Spot) (old new : List ℤ) (count : ℕ) (e : Bool)
+pub gave_gives : (c : Course) (spot : Maybe Point) (old new : List ℤ) (count : ℕ) (e : Bool)
     → Gave numbers_in 4 (left_at (listed_at c.job) (top span) (spot_of c.spot)) old (length old / 4) count new (spot_of spot) → e ≡ is_ended (spot_of spot)
     → Gives (given world c.job c.operator old (left_at (listed_at c.job) (top span) (spot_of c.spot))) old new (record { stage = S.Walking (record { job = c.job; spot = spot; operator = c.operator }) }) (A.Handed count e)
 gave_gives c spot old new count e g h =
     let k = h ∙ ap is_ended g.place ∙ ended-nil (drop (length old / 4) (left_at (listed_at c.job) (top span) (spot_of c.spot))) in
     gives (λ i. (handed (g.count i) (k i) (g.slice i), walking c.job (g.place i) c.operator)) g.slice
 
-pub course_hands : (c : Course) (v : Point) (old : List ℤ) → c.spot ≡ P.At v
+pub course_hands : (c : Course) (v : Point) (old : List ℤ) → c.spot ≡ Some v
     → step world (handOut old) (course_of c) ≡ given world c.job c.operator old (left_at (listed_at c.job) (top span) (spot_of c.spot))
 course_hands c v old e = rw e refl
 
 pub empty_gives : (c : Course) (old : List ℤ) → left_at (listed_at c.job) (top span) (spot_of c.spot) ≡ []
     → Gives (given world c.job c.operator old (left_at (listed_at c.job) (top span) (spot_of c.spot))) old old (record { stage = S.Walking (ended c) }) (A.Handed 0 true)
-empty_gives c old e = gave_gives c P.Ended old old 0 true (gave_none _ old _ e) refl
+empty_gives c old e = gave_gives c None old old 0 true (gave_none _ old _ e) refl

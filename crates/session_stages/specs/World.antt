@@ -1,8 +1,9 @@
 -- The world of the sessions: the records, jobs, solutions and operators of SPEC, as `session_model` asks for them.
+use Rattle.operator.specs.declared.Refusal.{Refusal}
 use Rattle.refusals.specs.Refusals.{unknown_kind, no_kind, out_of_turn}
 use Rattle.record_kinds.specs.Kinds.{number, kind_of, admission_of, kind_4}
 use Rattle.record.specs.Record.{reading_of, kind_reading}
-use Rattle.std.specs.Prelude.{◌≡◌, refl, Bool, true, false, cond, List, [], ◌∷◌, ℕ, T, eqb}
+use Rattle.std.specs.Prelude.{◌≡◌, refl, Bool, true, false, cond, List, [], ◌∷◌, ℕ, T, eqb, Result, Ok, Err}
 use Rattle.std.proofs.Math.Path.{subst⁻¹}
 use Rattle.std.proofs.lemmas.Bool.{false≢true}
 use Rattle.std.proofs.Math.Option.{Option}
@@ -13,8 +14,6 @@ use Rattle.region.specs.declared.Region.{Region}
 use Rattle.region.specs.declared.Job.{Job}
 use Rattle.region.specs.Selection.{listed}
 use Rattle.operator.specs.declared.Operator.{Operator}
-use Rattle.operator.specs.declared.Inverse.{Inverse}
-use Rattle.operator.specs.declared.Inverse.TheVariants as I
 use Rattle.operator.specs.Operator.{identity, image_of}
 use Rattle.operator.specs.Inverse.{inverse_of}
 use Rattle.record.specs.declared.Record.{Record}
@@ -82,9 +81,9 @@ operator_reading (RV.Accepted x n) = note x n
 operator_reading (RV.Refused f) = refuse (number f)
 
 -- yes if and only if the inverse sends w to a listed point
-abbrev pub undone : Job → Inverse → Point → Bool
-undone j (I.Operator h) w = listed j (image_of h w)
-undone j (I.Refused c) w = false
+abbrev pub undone : Job → Result Operator Refusal → Point → Bool
+undone j (Ok h) w = listed j (image_of h w)
+undone j (Err c) w = false
 
 unfoldable pub is_image : Job → Operator → Point → Bool
 is_image j g w = undone j (inverse_of g) w

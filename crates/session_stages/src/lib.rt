@@ -13,13 +13,12 @@ use pattern_shortest::Pattern;
 use record::Refusal;
 use region::{Job, Region};
 use ring::Point;
-use walk::Spot;
 
 // A job with the place of its walk and the operator that is remembered.
 #[derive(Clone, Copy)]
 pub struct Course {
     pub job: Job,
-    pub spot: Spot,
+    pub spot: Option<Point>,
     pub operator: Operator,
 }
 

@@ -10,16 +10,15 @@ ghost use Rattle.session_stages.specs.Place.{is_least};
 use crate::{Answer, Course, Outcome, Session, Stage};
 use record::Refusal;
 use ring::Point;
-use walk::Spot;
 
 // No coordinate is less.
 const LEAST: i32 = -2147483648;
 
 // Before the first point of any job's list.
-pub fn before_all() -> Spot
+pub fn before_all() -> Option<Point>
     ensures { spot_of result ≡ at 0 }
 {
-    Spot::At(Point {
+    Some(Point {
         a: LEAST,
         b: LEAST,
         c: LEAST,
@@ -31,38 +30,25 @@ pub fn before_all() -> Spot
 pub fn is_least(v: Point) -> bool
     ensures { result ≡ is_least v }
 {
-    if v.a == LEAST {
-        if v.b == LEAST {
-            if v.c == LEAST {
-                return v.d == LEAST;
-            }
-        }
-    }
-    false
+    v.a == LEAST && v.b == LEAST && v.c == LEAST && v.d == LEAST
 }
 
 // Whether a walk is past its end.
-pub fn is_ended(p: Spot) -> bool
+pub fn is_ended(p: Option<Point>) -> bool
     ensures { result ≡ is_ended (spot_of p) }
 {
-    match p {
-        Spot::At(_) => false,
-        Spot::Ended => true,
-    }
+    matches!(p, None)
 }
 
 // The same job, before its first point.
 pub fn rewound(c: Course) -> Outcome
     ensures { outcome [] result.session result.answer ≡ step world rewind (course_of c) }
 {
-    let job = c.job;
-    let operator = c.operator;
     Outcome {
         session: Session {
             stage: Stage::Walking(Course {
-                job: job,
                 spot: before_all(),
-                operator: operator,
+                ..c
             }),
         },
         answer: Answer::Done,
@@ -73,15 +59,9 @@ pub fn rewound(c: Course) -> Outcome
 pub fn at_end(c: Course) -> Outcome
     ensures { (result.session.stage ≡ Stage.Walking (ended c)) × (result.answer ≡ Answer.Handed 0 true) }
 {
-    let job = c.job;
-    let kept = c.operator;
     Outcome {
         session: Session {
-            stage: Stage::Walking(Course {
-                job: job,
-                spot: Spot::Ended,
-                operator: kept,
-            }),
+            stage: Stage::Walking(Course { spot: None, ..c }),
         },
         answer: Answer::Handed(0, true),
     }

@@ -15,29 +15,24 @@ pub use session_tallying::{Outcome, Tallied, clear, start, tally};
 pub fn read(b: Tallied, bytes: &[u8]) -> Outcome
     ensures { Moves (reading bytes.now) [] b result.session result.answer }
 {
-    let t = b.tally;
-    session_tallying::kept(session::read(b.session, bytes), t)
+    session_tallying::kept(session::read(b.session, bytes), b.tally)
 }
 
 // A hand-out: as many of the next listed points as the slice has space for.
 pub fn hand_out(b: Tallied, out: &mut [i32]) -> Outcome
     ensures { Deals b out.old out.new result.session result.answer }
 {
-    let s = b.session;
-    let t = b.tally;
-    let o = session::hand_out(s, out);
-    let a = o.answer;
-    session_tallying::kept(o, session_tallying::grown(t, s, a, out))
+    let o = session::hand_out(b.session, out);
+    let t = session_tallying::grown(b.tally, b.session, o.answer, out);
+    session_tallying::kept(o, t)
 }
 
 // Back before the first point.
 pub fn rewind(b: Tallied) -> Outcome
     ensures { Moves rewinding [] b result.session result.answer }
 {
-    let t = b.tally;
     let o = session::rewind(b.session);
-    let a = o.answer;
-    session_tallying::kept(o, session_tallying::restarted(t, a))
+    session_tallying::kept(o, session_tallying::restarted(b.tally, o.answer))
 }
 
 // Whether the job lists a point.

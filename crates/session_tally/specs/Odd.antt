@@ -1,14 +1,12 @@
 -- The exponents of points that √2 does not divide, that it divides and 2 does not, and that 2 divides.
 -- Assumes nothing.
-use Rattle.std.specs.Prelude.{◌≡◌, refl, Bool, true, false, not, ◌&&◌, ◌⊎◌, ℕ, zero, suc, ◌-◌, ◌≤◌, ◌<◌, ℤ, pos, ◌+ℤ◌, ◌-ℤ◌}
+use Rattle.std.specs.Prelude.{◌≡◌, refl, Bool, true, false, not, ◌&&◌, ◌⊎◌, ℕ, zero, suc, ◌-◌, ◌≤◌, ◌<◌, ℤ, pos, ◌+ℤ◌, ◌-ℤ◌, Some, None}
 use Rattle.std.proofs.Common.{sym, ap, ap₂, ◌∙◌, inl, inr, arith}
 use Rattle.std.proofs.lemmas.Bool.{false≢true}
 use Rattle.std.proofs.Math.IntN.{+ℤ_comm}
 use Rattle.integers.specs.Difference.{by⊖, zz}
 use Rattle.integers.specs.Parity.{even, half, double_half, even-by, even--→+}
 use Rattle.ring.specs.declared.Point.{Point}
-use Rattle.ring.specs.declared.Quotient.{Quotient}
-use Rattle.ring.specs.declared.Quotient.TheVariants.{Whole, NotInRing}
 use Rattle.ring.specs.Point.{◌*ω◌, √2ω, ext}
 use Rattle.ring.specs.Point.Divide.{divide_root2, halves, divide_even, divide_odd-ac, divide_odd-bd, divide_times, divide_whole, times-√2}
 use Rattle.ring.specs.Point.Exponent.{exponent_of, exponent_zero, exponent_whole, exponent_not}
@@ -21,10 +19,10 @@ odd v = not (even (v.a -ℤ v.c) && even (v.b -ℤ v.d))
 abbrev pub half_of : Point → Point
 half_of v = record { a = half v.a; b = half v.b; c = half v.c; d = half v.d }
 
-odd-not : (v : Point) → odd v ≡ true → divide_root2 v ≡ NotInRing
+odd-not : (v : Point) → odd v ≡ true → divide_root2 v ≡ None
 odd-not v h = go (even (v.a -ℤ v.c)) (even (v.b -ℤ v.d)) refl refl h
   where
-    go : (s t : Bool) → even (v.a -ℤ v.c) ≡ s → even (v.b -ℤ v.d) ≡ t → not (s && t) ≡ true → divide_root2 v ≡ NotInRing
+    go : (s t : Bool) → even (v.a -ℤ v.c) ≡ s → even (v.b -ℤ v.d) ≡ t → not (s && t) ≡ true → divide_root2 v ≡ None
     go true true e f h = absurd (false≢true h)
     go true false e f h = divide_odd-bd v f
     go false t e f h = divide_odd-ac v e
@@ -52,7 +50,7 @@ odd-exponent (suc k) v h = sym (exponent_not (suc k) v (omega arith) (odd-not v 
 
 -- one step down
 module _ (k : ℕ) (v : Point) (h : odd v ≡ false) where
-  divides : divide_root2 v ≡ Whole (halves v)
+  divides : divide_root2 v ≡ Some (halves v)
   divides = let e = evens v h in divide_even v e.0 e.1
 
   pub small-exponent : k < 2 → 0 ≡ exponent_of k v
@@ -117,7 +115,7 @@ module _ (k : ℕ) (v : Point) (h : odd v ≡ false) (ea : even v.a ≡ true) (e
 
   pub half-exponent : 2 ≤ k → exponent_of (k - 2) u ≡ exponent_of k v
   half-exponent l =
-      let d : divide_root2 v ≡ Whole (u *ω √2ω) = ap divide_root2 (sym twice) ∙ divide_times (u *ω √2ω) in
+      let d : divide_root2 v ≡ Some (u *ω √2ω) = ap divide_root2 (sym twice) ∙ divide_times (u *ω √2ω) in
       let e : k - 2 ≡ k - 1 - 1 = omega arith in
       ap (λ (n : ℕ). exponent_of n u) e
       ∙ exponent_whole (k - 1) (u *ω √2ω) u (omega arith) (divide_times u)

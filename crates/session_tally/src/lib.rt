@@ -32,11 +32,8 @@ impl Tally {
         ensures { result.counts ≡ added more self.counts }
     {
         let mut counts = self.counts;
-        let mut e = 0;
-        while e < 21 {
-            let n = counts[e];
-            counts[e] = n.plus(more[e]);
-            e += 1;
+        for (e, n) in more.iter().enumerate() {
+            counts[e] = counts[e].plus(*n);
         }
         Tally { counts }
     }
@@ -49,8 +46,7 @@ pub fn spread_of(points: &[i32], n: usize, k: u8) -> [u64; 21]
 {
     let mut counts = [0u64; 21];
     let mut even: usize = 0;
-    let mut i = 0;
-    while i < n {
+    for i in 0..n {
         let v = ring_points::point_at(points, i);
         if !is_odd(v) {
             let e = exponent(v, k) as usize;
@@ -59,9 +55,8 @@ pub fn spread_of(points: &[i32], n: usize, k: u8) -> [u64; 21]
             }
             even += 1;
         }
-        i += 1;
     }
-    let e = k as usize;
+    let e = usize::from(k);
     if e < 21 {
         counts[e] += (n - even) as u64;
     }
@@ -72,10 +67,7 @@ pub fn spread_of(points: &[i32], n: usize, k: u8) -> [u64; 21]
 fn is_odd(v: Point) -> bool
     ensures { result ≡ odd v }
 {
-    if agree(v.a, v.c) {
-        return !agree(v.b, v.d);
-    }
-    true
+    !(agree(v.a, v.c) && agree(v.b, v.d))
 }
 
 // Whether 2 divides a − b.
@@ -93,12 +85,10 @@ fn exponent(v: Point, k: u8) -> u32
     if k < 2 {
         return 0;
     }
-    if agree(v.a, 0) {
-        if agree(v.b, 0) {
-            return exponent_of(half(v), k - 2);
-        }
+    if agree(v.a, 0) && agree(v.b, 0) {
+        return exponent_of(half(v), k - 2);
     }
-    k as u32 - 1
+    u32::from(k) - 1
 }
 
 // The exponent of any point: k where √2 does not divide it.
@@ -106,7 +96,7 @@ fn exponent_of(v: Point, k: u8) -> u32
     ensures { result ≡ exponent_of k v }
 {
     if is_odd(v) {
-        return k as u32;
+        return u32::from(k);
     }
     v.exponent(k)
 }
@@ -128,7 +118,7 @@ pub fn all_new(n: usize, k: u8) -> [u64; 21]
     ensures { result ≡ alone n k }
 {
     let mut counts = [0u64; 21];
-    let e = k as usize;
+    let e = usize::from(k);
     if e < 21 {
         counts[e] = n as u64;
     }

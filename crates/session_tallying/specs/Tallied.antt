@@ -1,8 +1,6 @@
 -- What a call does to the bench's session: a step of the model of `session_model`, and a change of the counts. SPEC, "Tally".
-use Rattle.std.specs.Prelude.{◌≡◌, Bool, true, cond, List, [], ◌∷◌, ℕ, ◌*◌, ◌≤◌, ℤ, length, take}
+use Rattle.std.specs.Prelude.{◌≡◌, cond, List, ℕ, ◌*◌, ◌≤◌, ℤ, length, take}
 use Rattle.region.specs.declared.Job.{Job}
-use Rattle.operator.specs.declared.Operator.{Operator}
-use Rattle.ranks.specs.Rest.{Place}
 use Rattle.ranks.specs.Handed.{flat}
 use Rattle.walk_list.specs.Walk.{numbers_in, listed_at}
 use Rattle.session_model.specs.Session.{Call, reading, handOut, rewind, clear, plain, image_of, shortest, refused, taken, handed, done, says, best, early, walking, step, is_refused}

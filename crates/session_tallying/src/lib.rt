@@ -55,14 +55,12 @@ pub fn tally(b: Tallied) -> Tally
 pub fn kept(o: session_stages::Outcome, t: Tally) -> Outcome
     ensures { (result.session.session ≡ o.session) × (result.session.tally ≡ t) × (result.answer ≡ o.answer) }
 {
-    let s = o.session;
-    let a = o.answer;
     Outcome {
         session: Tallied {
-            session: s,
+            session: o.session,
             tally: t,
         },
-        answer: a,
+        answer: o.answer,
     }
 }
 
@@ -73,11 +71,7 @@ pub fn grown(t: Tally, s: Session, a: Answer, points: &[i32]) -> Tally
 {
     match a {
         Answer::Handed(n, _) => counted(t, s, points, n),
-        Answer::Taken(_) => t,
-        Answer::Done => t,
-        Answer::Says(_) => t,
-        Answer::Least(_, _, _) => t,
-        Answer::Refused(_) => t,
+        _ => t,
     }
 }
 
@@ -86,8 +80,7 @@ fn counted(t: Tally, s: Session, points: &[i32], n: usize) -> Tally
     requires { Dealt (meaning s) points.now n }
     ensures { result ≡ raised (scale_of (meaning s)) (take (4 * n) points.now) t }
 {
-    let g = s.stage;
-    match g {
+    match s.stage {
         Stage::Early(_) => t,
         Stage::Walking(c) => t.plus(spread(c.job, points, n)),
     }
@@ -99,9 +92,10 @@ fn spread(job: Job, points: &[i32], n: usize) -> [u64; 21]
     ensures { result ≡ spread job.k (points_of (take (4 * n) points.now)) }
 {
     if job.all {
-        return session_tally::spread_of(points, n, job.k);
+        session_tally::spread_of(points, n, job.k)
+    } else {
+        session_tally::all_new(n, job.k)
     }
-    session_tally::all_new(n, job.k)
 }
 
 // The counts after a rewind: 0, and as before where it is refused.
@@ -110,10 +104,6 @@ pub fn restarted(t: Tally, a: Answer) -> Tally
 {
     match a {
         Answer::Refused(_) => t,
-        Answer::Handed(_, _) => Tally::zero(),
-        Answer::Taken(_) => Tally::zero(),
-        Answer::Done => Tally::zero(),
-        Answer::Says(_) => Tally::zero(),
-        Answer::Least(_, _, _) => Tally::zero(),
+        _ => Tally::zero(),
     }
 }

@@ -5,7 +5,7 @@ ghost use Rattle.std.specs.Prelude.{◌≡◌, []};
 ghost use Rattle.record.specs.declared.Reading.TheVariants as reading;
 ghost use Rattle.session_model.specs.Session.{joined, remembered};
 ghost use Rattle.walk_list.specs.Walk.{spot_of};
-ghost use Rattle.session_stages.specs.World.{world, turn_at, place_scale, place_selection, place_region, part_reading, operator_reading};
+ghost use Rattle.session_stages.specs.World.{world, turn_at, part_reading, operator_reading};
 ghost use Rattle.session_stages.specs.Session.{turn_of, outcome, outcome_of};
 
 mod reading;
@@ -13,15 +13,14 @@ mod reading;
 use operator::Operator;
 pub use reading::read;
 use record::{Record, Refusal, Turn};
-use region::{Job, Region};
+use region::Job;
 use session_stages::{Answer, Course, Outcome, Parts, Session, Stage, place};
 
 // Which record comes next.
 pub fn turn(s: Session) -> Turn
     ensures { result ≡ turn_of s }
 {
-    let g = s.stage;
-    match g {
+    match s.stage {
         Stage::Early(p) => turn_at(p),
         Stage::Walking(_) => Turn::Operators,
     }
@@ -42,8 +41,7 @@ fn turn_at(p: Parts) -> Turn
 pub fn accepted(s: Session, x: Record, n: usize) -> Outcome
     ensures { outcome [] result.session result.answer ≡ outcome_of s (reading.Accepted x n) }
 {
-    let g = s.stage;
-    match g {
+    match s.stage {
         Stage::Early(p) => part(p, x, n),
         Stage::Walking(c) => noted(c, x, n),
     }
@@ -53,7 +51,7 @@ fn taken(stage: Stage, n: usize) -> Outcome
     ensures { (result.session.stage ≡ stage) × (result.answer ≡ Answer.Taken n) }
 {
     Outcome {
-        session: Session { stage: stage },
+        session: Session { stage },
         answer: Answer::Taken(n),
     }
 }
@@ -62,66 +60,35 @@ fn out_of_turn(stage: Stage) -> Outcome
     ensures { (result.session.stage ≡ stage) × (result.answer ≡ Answer.Refused Refusal.OutOfTurn) }
 {
     Outcome {
-        session: Session { stage: stage },
+        session: Session { stage },
         answer: Answer::Refused(Refusal::OutOfTurn),
     }
 }
 
-// A record that comes before the job is whole.
+// A record that comes before the job is whole. Where no selection was read only the new points are listed.
 fn part(p: Parts, x: Record, n: usize) -> Outcome
     ensures { outcome [] result.session result.answer ≡ joined world p (part_reading p (reading.Accepted x n)) }
 {
-    match x {
-        Record::Scale(k) => scale(p, k, n),
-        Record::Selection(all) => selection(p, all, n),
-        Record::Region(a) => region(p, a, n),
-        Record::Operator(_) => out_of_turn(Stage::Early(p)),
-    }
-}
-
-fn scale(p: Parts, k: u8, n: usize) -> Outcome
-    ensures { outcome [] result.session result.answer ≡ joined world p (place_scale p k n) }
-{
-    match p {
-        Parts::Nothing => taken(Stage::Early(Parts::Scaled(k)), n),
-        Parts::Scaled(_) => out_of_turn(Stage::Early(p)),
-        Parts::Selected(_, _) => out_of_turn(Stage::Early(p)),
-        Parts::First(_, _, _) => out_of_turn(Stage::Early(p)),
-    }
-}
-
-fn selection(p: Parts, all: bool, n: usize) -> Outcome
-    ensures { outcome [] result.session result.answer ≡ joined world p (place_selection p all n) }
-{
-    match p {
-        Parts::Nothing => out_of_turn(Stage::Early(p)),
-        Parts::Scaled(k) => taken(Stage::Early(Parts::Selected(k, all)), n),
-        Parts::Selected(_, _) => out_of_turn(Stage::Early(p)),
-        Parts::First(_, _, _) => out_of_turn(Stage::Early(p)),
-    }
-}
-
-// Where no selection was read only the new points are listed.
-fn region(p: Parts, a: Region, n: usize) -> Outcome
-    ensures { outcome [] result.session result.answer ≡ joined world p (place_region p a n) }
-{
-    match p {
-        Parts::Nothing => out_of_turn(Stage::Early(p)),
-        Parts::Scaled(k) => taken(Stage::Early(Parts::First(k, false, a)), n),
-        Parts::Selected(k, all) => taken(Stage::Early(Parts::First(k, all, a)), n),
-        Parts::First(k, all, first) => taken(
+    match (p, x) {
+        (Parts::Nothing, Record::Scale(k)) => taken(Stage::Early(Parts::Scaled(k)), n),
+        (Parts::Scaled(k), Record::Selection(all)) => {
+            taken(Stage::Early(Parts::Selected(k, all)), n)
+        }
+        (Parts::Scaled(k), Record::Region(a)) => {
+            taken(Stage::Early(Parts::First(k, false, a)), n)
+        }
+        (Parts::Selected(k, all), Record::Region(a)) => {
+            taken(Stage::Early(Parts::First(k, all, a)), n)
+        }
+        (Parts::First(k, all, a), Record::Region(b)) => taken(
             Stage::Walking(Course {
-                job: Job {
-                    k: k,
-                    all: all,
-                    a: first,
-                    b: a,
-                },
+                job: Job { k, all, a, b },
                 spot: place::before_all(),
                 operator: Operator::identity(),
             }),
             n,
         ),
+        _ => out_of_turn(Stage::Early(p)),
     }
 }
 
@@ -130,21 +97,7 @@ fn noted(c: Course, x: Record, n: usize) -> Outcome
     ensures { outcome [] result.session result.answer ≡ remembered world c.job (spot_of c.spot) c.operator (operator_reading (reading.Accepted x n)) }
 {
     match x {
-        Record::Scale(_) => out_of_turn(Stage::Walking(c)),
-        Record::Selection(_) => out_of_turn(Stage::Walking(c)),
-        Record::Region(_) => out_of_turn(Stage::Walking(c)),
-        Record::Operator(g) => taken(Stage::Walking(remembering(c, g)), n),
-    }
-}
-
-fn remembering(c: Course, g: Operator) -> Course
-    ensures { (result.job ≡ c.job) × (result.spot ≡ c.spot) × (result.operator ≡ g) }
-{
-    let job = c.job;
-    let spot = c.spot;
-    Course {
-        job: job,
-        spot: spot,
-        operator: g,
+        Record::Operator(operator) => taken(Stage::Walking(Course { operator, ..c }), n),
+        _ => out_of_turn(Stage::Walking(c)),
     }
 }

@@ -13,8 +13,7 @@ pub fn read(s: Session, bytes: &[u8]) -> Outcome
     ensures steps { Steps (reading bytes.now) [] s result.session result.answer }
     ensures fits { Fits result.session.stage }
 {
-    let r = record::read(bytes, turn(s));
-    match r {
+    match record::read(bytes, turn(s)) {
         Reading::Accepted(x, n) => accepted(s, x, n),
         Reading::Refused(f) => session_stages::refused(s, f),
     }

@@ -28,7 +28,8 @@ impl fmt::Write for Text {
     }
 }
 
-// Writes a line to standard error: what failed, as the caller names it, a colon and the system's text for the error.
+// Writes a line to standard error: what failed, as the caller names it, a colon and the system's text for the error. No contract: no clause of std says what
+// `eprintln!` wrote.
 pub fn fail<R: Eprint>(rt: &R, what: &[u8], why: io::Error) {
     let mut said = Text {
         bytes: [0; ROOM],

@@ -1,9 +1,9 @@
 -- An input on its way in: what the reads gave up to the answer 0. A read that fails is no end. Assumes nothing.
-use Rattle.std.specs.Prelude.{◌≡◌, refl, Bool, true, false, cond, ◌⊎◌, List, [], ◌++◌, ℕ, ◌+◌, ◌-◌, ◌≤◌, ◌<◌, eqb, ltb, ℤ, pos, negsuc, length, take, drop}
+use Rattle.std.specs.Prelude.{◌≡◌, refl, Bool, true, false, cond, ◌⊎◌, List, [], ◌++◌, ℕ, ◌+◌, ◌-◌, ◌≤◌, ◌<◌, eqb, ltb, ℤ, pos, negsuc, length, take, drop, Ok, Err}
 use Rattle.std.proofs.Common.{sym, ap, ◌∙◌, inl, inr, append-nil, arith, ltb-true, ltb-false, eqb-true, length-take-le, take-add, of_z}
 use Rattle.std.specs.Int.{w32}
 use Rattle.io.specs.Counts.{IsPrefixLen}
-use Rattle.system_transfer.specs.declared.Answer.TheVariants as A
+use Rattle.system_transfer.specs.declared.Fault.TheVariants as A
 use Rattle.system_transfer.specs.declared.Transfer.{Transfer}
 use Rattle.system_transfer.specs.Answers.{Moved, full_patience, answer_of}
 use Rattle.system_transfer.specs.Transfer.{begun_of, closed_of, step_of, Inside, begun-inside, step-inside}
@@ -62,13 +62,13 @@ module _ (size : ℕ) (t : List ℕ) (s : Transfer) (old new : List ℕ) (h : St
   on n k false false e f i = record { given = rw given (sym (take-add s.at n new)); same = same_size; inside = i }
 
   stands : (got error : ℤ) → Moved (size - s.at) got → Stands size (t ++ take (count_of got) (drop s.at new)) (received_of size s got error) new
-  stands (pos n) error k = on n k (eqb n 0) (ltb (size - s.at) n) (eqb-true n 0) (ltb-true (size - s.at) n) (step-inside false size s h.inside (A.Moved n))
+  stands (pos n) error k = on n k (eqb n 0) (ltb (size - s.at) n) (eqb-true n 0) (ltb-true (size - s.at) n) (step-inside false size s h.inside (Ok n))
   stands (negsuc n) error k = errs (eqb (of_z w32 error) 11) (eqb (of_z w32 error) 4)
     where
-      errs : (b c : Bool) → Stands size (t ++ []) (step_of false size s (cond b A.NotNow (cond c A.Interrupted A.Failed))) new
-      errs true c = stays (eqb s.patience.left 0) _ _ (step-inside false size s h.inside A.NotNow) refl refl
-      errs false true = stays (eqb s.patience.left 0) _ _ (step-inside false size s h.inside A.Interrupted) refl refl
-      errs false false = stays true _ s (step-inside false size s h.inside A.Failed) refl refl
+      errs : (b c : Bool) → Stands size (t ++ []) (step_of false size s (cond b (Err A.NotNow) (cond c (Err A.Interrupted) (Err A.Failed)))) new
+      errs true c = stays (eqb s.patience.left 0) _ _ (step-inside false size s h.inside (Err A.NotNow)) refl refl
+      errs false true = stays (eqb s.patience.left 0) _ _ (step-inside false size s h.inside (Err A.Interrupted)) refl refl
+      errs false false = stays true _ s (step-inside false size s h.inside (Err A.Failed)) refl refl
 
 pub run-stands : {size : ℕ} {t : List ℕ} {s : Transfer} {buf : List ℕ} → Run size t s buf → Stands size t s buf
 run-stands {size} (begun e) = record { given = refl; same = e; inside = begun-inside size }
@@ -94,8 +94,8 @@ module _ (size : ℕ) (s : Transfer) (o : s.more ≡ true) (room : s.at ≤ size
   ends (pos n) error k p q = moved_ends n k (eqb n 0) (ltb (size - s.at) n) (eqb-true n 0) _ refl p q
   ends (negsuc n) error k p q = errs (eqb (of_z w32 error) 11) (eqb (of_z w32 error) 4) p q
     where
-      errs : (b c : Bool) → (step_of false size s (cond b A.NotNow (cond c A.Interrupted A.Failed))).more ≡ false → (step_of false size s (cond b A.NotNow (cond c A.Interrupted A.Failed))).failed ≡ false
-          → (negsuc n ≡ pos 0) ⊎ ((step_of false size s (cond b A.NotNow (cond c A.Interrupted A.Failed))).at ≡ size)
+      errs : (b c : Bool) → (step_of false size s (cond b (Err A.NotNow) (cond c (Err A.Interrupted) (Err A.Failed)))).more ≡ false → (step_of false size s (cond b (Err A.NotNow) (cond c (Err A.Interrupted) (Err A.Failed)))).failed ≡ false
+          → (negsuc n ≡ pos 0) ⊎ ((step_of false size s (cond b (Err A.NotNow) (cond c (Err A.Interrupted) (Err A.Failed)))).at ≡ size)
       errs true c p q = off-ends _ (eqb s.patience.left 0) _ _ refl refl p q
       errs false true p q = off-ends _ (eqb s.patience.left 0) _ _ refl refl p q
       errs false false p q = never refl q

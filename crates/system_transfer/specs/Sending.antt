@@ -1,9 +1,9 @@
 -- A text on its way out. Over every sequence of answers the bytes taken, joined, are a beginning of the text, and all of it exactly where the machine ends without a failure: none is offered again after it was taken, and none is skipped. Assumes nothing.
-use Rattle.std.specs.Prelude.{◌≡◌, refl, Bool, true, false, not, cond, List, [], ◌++◌, ℕ, ◌+◌, ◌-◌, ◌≤◌, ◌<◌, eqb, ltb, ℤ, pos, negsuc, length, take, drop}
+use Rattle.std.specs.Prelude.{◌≡◌, refl, Bool, true, false, not, cond, List, [], ◌++◌, ℕ, ◌+◌, ◌-◌, ◌≤◌, ◌<◌, eqb, ltb, ℤ, pos, negsuc, length, take, drop, Ok, Err}
 use Rattle.std.proofs.Common.{sym, ap, ◌∙◌, append-nil, arith, ltb-true, ltb-false, eqb-true, length-take-le, take-add, of_z}
 use Rattle.std.proofs.Math.Seq.{take-length}
 use Rattle.std.specs.Int.{w32}
-use Rattle.system_transfer.specs.declared.Answer.TheVariants as A
+use Rattle.system_transfer.specs.declared.Fault.TheVariants as A
 use Rattle.system_transfer.specs.declared.Transfer.{Transfer}
 use Rattle.system_transfer.specs.Answers.{Moved, full_patience, answer_of}
 use Rattle.system_transfer.specs.Transfer.{begun_of, closed_of, step_of, Inside, begun-inside, step-inside}
@@ -51,7 +51,7 @@ module _ (text t : List ℕ) (s : Transfer) (h : Stands text t s) (o : s.more �
   closed-stands : Stands text (t ++ []) (closed_of s true)
   closed-stands = record {
     first = append-nil t ∙ h.first;
-    inside = step-inside true size s h.inside A.Failed;
+    inside = step-inside true size s h.inside (Err A.Failed);
     broken = λ e. h.inside.going o;
     through = λ e f. never refl f;
   }
@@ -78,12 +78,12 @@ module _ (text t : List ℕ) (s : Transfer) (h : Stands text t s) (o : s.more �
   }
 
   stands : (got error : ℤ) → Moved (size - s.at) got → Stands text (t ++ took_of text s got) (sent_of text s got error)
-  stands (pos n) error k = on n k (eqb n 0) (ltb (size - s.at) n) (eqb-true n 0) (ltb-true (size - s.at) n) (step-inside true size s h.inside (A.Moved n))
+  stands (pos n) error k = on n k (eqb n 0) (ltb (size - s.at) n) (eqb-true n 0) (ltb-true (size - s.at) n) (step-inside true size s h.inside (Ok n))
   stands (negsuc n) error k = errs (eqb (of_z w32 error) 11) (eqb (of_z w32 error) 4)
     where
-      errs : (b c : Bool) → Stands text (t ++ []) (step_of true size s (cond b A.NotNow (cond c A.Interrupted A.Failed)))
-      errs true c = off (eqb s.patience.left 0) _ (step-inside true size s h.inside A.NotNow) refl refl refl
-      errs false true = off (eqb s.patience.left 0) _ (step-inside true size s h.inside A.Interrupted) refl refl refl
+      errs : (b c : Bool) → Stands text (t ++ []) (step_of true size s (cond b (Err A.NotNow) (cond c (Err A.Interrupted) (Err A.Failed))))
+      errs true c = off (eqb s.patience.left 0) _ (step-inside true size s h.inside (Err A.NotNow)) refl refl refl
+      errs false true = off (eqb s.patience.left 0) _ (step-inside true size s h.inside (Err A.Interrupted)) refl refl refl
       errs false false = closed-stands
 
 begun-stands : (text : List ℕ) → Stands text [] (begun_of (length text))

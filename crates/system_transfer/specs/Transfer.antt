@@ -1,9 +1,9 @@
 -- The machine that moves the bytes of a slice, one way or the other, and that each answer leaves it less to do. Assumes nothing.
-use Rattle.std.specs.Prelude.{◌≡◌, refl, Bool, true, false, cond, ℕ, suc, ◌+◌, ◌*◌, ◌-◌, ◌≤◌, ◌<◌, eqb, ltb}
+use Rattle.system_transfer.specs.declared.Fault.{Fault}
+use Rattle.std.specs.Prelude.{◌≡◌, refl, Bool, true, false, cond, ℕ, suc, ◌+◌, ◌*◌, ◌-◌, ◌≤◌, ◌<◌, eqb, ltb, Result, Ok, Err}
 use Rattle.std.proofs.Common.{arith, ltb-true, ltb-false}
 use Rattle.std.proofs.lemmas.Bool.{eqb-false}
-use Rattle.system_transfer.specs.declared.Answer.{Answer}
-use Rattle.system_transfer.specs.declared.Answer.TheVariants as A
+use Rattle.system_transfer.specs.declared.Fault.TheVariants as A
 use Rattle.system_transfer.specs.declared.Transfer.{Transfer}
 use Rattle.system_transfer.specs.Answers.{full_patience, is_out, less_of}
 
@@ -21,11 +21,11 @@ moved_of none size t n = cond (eqb n 0) (closed_of t none) (cond (ltb (size - t.
 abbrev pub put_off_of : Transfer → Bool → Transfer
 put_off_of t waits = cond (is_out t.patience) (closed_of t true) (record { at = t.at; patience = less_of t.patience waits; more = t.more; failed = false })
 
-abbrev pub step_of : Bool → ℕ → Transfer → Answer → Transfer
-step_of none size t (A.Moved n) = moved_of none size t n
-step_of none size t A.NotNow = put_off_of t true
-step_of none size t A.Interrupted = put_off_of t false
-step_of none size t A.Failed = closed_of t true
+abbrev pub step_of : Bool → ℕ → Transfer → Result ℕ Fault → Transfer
+step_of none size t (Ok n) = moved_of none size t n
+step_of none size t (Err A.NotNow) = put_off_of t true
+step_of none size t (Err A.Interrupted) = put_off_of t false
+step_of none size t (Err A.Failed) = closed_of t true
 
 -- ---- what holds before each answer, and what falls
 pub record Inside (size : ℕ) (t : Transfer) : Type 0 where
@@ -61,11 +61,11 @@ module _ (none : Bool) (size : ℕ) (t : Transfer) (h : Inside size t) where
   go-inside n false true g = closed-inside true
   go-inside n false false g = let z = h.room in let y = g refl in record { room = omega arith; going = ltb-true (t.at + n) size; calm = omega arith }
 
-  pub step-inside : (a : Answer) → Inside size (step_of none size t a)
-  step-inside (A.Moved n) = go-inside n (eqb n 0) (ltb (size - t.at) n) (ltb-false (size - t.at) n)
-  step-inside A.NotNow = put-inside true (eqb t.patience.left 0)
-  step-inside A.Interrupted = put-inside false (eqb t.patience.left 0)
-  step-inside A.Failed = closed-inside true
+  pub step-inside : (a : Result ℕ Fault) → Inside size (step_of none size t a)
+  step-inside (Ok n) = go-inside n (eqb n 0) (ltb (size - t.at) n) (ltb-false (size - t.at) n)
+  step-inside (Err A.NotNow) = put-inside true (eqb t.patience.left 0)
+  step-inside (Err A.Interrupted) = put-inside false (eqb t.patience.left 0)
+  step-inside (Err A.Failed) = closed-inside true
 
   module _ (o : t.more ≡ true) where
     closed-less : (f : Bool) → load size (closed_of t f) < load size t
@@ -87,8 +87,8 @@ module _ (none : Bool) (size : ℕ) (t : Transfer) (h : Inside size t) where
         let y = g refl in
         rw o (less-open (ltb (t.at + n) size) _ _ (omega arith))
 
-    pub step_less : (a : Answer) → load size (step_of none size t a) < load size t
-    step_less (A.Moved n) = go-less n (eqb n 0) (ltb (size - t.at) n) (eqb-false n 0) (ltb-false (size - t.at) n)
-    step_less A.NotNow = put-less true (eqb t.patience.left 0) (eqb-false t.patience.left 0)
-    step_less A.Interrupted = put-less false (eqb t.patience.left 0) (eqb-false t.patience.left 0)
-    step_less A.Failed = closed-less true
+    pub step_less : (a : Result ℕ Fault) → load size (step_of none size t a) < load size t
+    step_less (Ok n) = go-less n (eqb n 0) (ltb (size - t.at) n) (eqb-false n 0) (ltb-false (size - t.at) n)
+    step_less (Err A.NotNow) = put-less true (eqb t.patience.left 0) (eqb-false t.patience.left 0)
+    step_less (Err A.Interrupted) = put-less false (eqb t.patience.left 0) (eqb-false t.patience.left 0)
+    step_less (Err A.Failed) = closed-less true

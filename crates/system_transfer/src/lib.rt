@@ -22,8 +22,7 @@ const EIO: i32 = 5;
 
 // What a call of read or write came to: it moved so many bytes; it would have to wait; a signal came first; it failed.
 #[derive(Clone, Copy)]
-pub enum Answer {
-    Moved(usize),
+pub enum Fault {
     NotNow,
     Interrupted,
     Failed,
@@ -39,27 +38,27 @@ pub struct Transfer {
 }
 
 // What a call answered, with the error's number after it.
-pub fn judged(got: isize, error: i32) -> Answer
+pub fn judged(got: isize, error: i32) -> Result<usize, Fault>
     ensures { result ≡ answer_of got error }
 {
     if got >= 0 {
-        return Answer::Moved(got as usize);
+        return Ok(got as usize);
     }
     if error == EAGAIN {
-        return Answer::NotNow;
+        return Err(Fault::NotNow);
     }
     if error != EINTR {
-        return Answer::Failed;
+        return Err(Fault::Failed);
     }
-    Answer::Interrupted
+    Err(Fault::Interrupted)
 }
 
 // What a reader's or a writer's call answered.
-pub fn answered(got: &io::Result<usize>) -> Answer
+pub fn answered(got: &io::Result<usize>) -> Result<usize, Fault>
     ensures { result ≡ answer_of (got_of got.now) (error_of_result got.now) }
 {
     match got {
-        Ok(n) => Answer::Moved(*n),
+        Ok(n) => Ok(*n),
         Err(why) => judged(-1, number(why.kind())),
     }
 }
@@ -88,7 +87,7 @@ pub fn begin(length: usize) -> Transfer
 }
 
 // After the answer to a write of the rest of a text of length bytes: one that takes nothing has failed.
-pub fn sent(t: Transfer, length: usize, a: Answer) -> Transfer
+pub fn sent(t: Transfer, length: usize, a: Result<usize, Fault>) -> Transfer
     requires { t.at ≤ length }
     ensures { result ≡ step_of true length t a }
 {
@@ -96,7 +95,7 @@ pub fn sent(t: Transfer, length: usize, a: Answer) -> Transfer
 }
 
 // After the answer to a read into the rest of a slice of length bytes: one that gives nothing is the end of the input.
-pub fn received(t: Transfer, length: usize, a: Answer) -> Transfer
+pub fn received(t: Transfer, length: usize, a: Result<usize, Fault>) -> Transfer
     requires { t.at ≤ length }
     ensures { result ≡ step_of false length t a }
 {
@@ -104,15 +103,15 @@ pub fn received(t: Transfer, length: usize, a: Answer) -> Transfer
 }
 
 // `none` is whether a call that moves nothing has failed.
-fn step(none: bool, length: usize, t: Transfer, a: Answer) -> Transfer
+fn step(none: bool, length: usize, t: Transfer, a: Result<usize, Fault>) -> Transfer
     requires { t.at ≤ length }
     ensures { result ≡ step_of none length t a }
 {
     match a {
-        Answer::Moved(n) => moved(none, length, t, n),
-        Answer::NotNow => put_off(t, true),
-        Answer::Interrupted => put_off(t, false),
-        Answer::Failed => closed(t, true),
+        Ok(n) => moved(none, length, t, n),
+        Err(Fault::NotNow) => put_off(t, true),
+        Err(Fault::Interrupted) => put_off(t, false),
+        Err(Fault::Failed) => closed(t, true),
     }
 }
 

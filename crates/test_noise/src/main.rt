@@ -22,17 +22,15 @@ fn buffer() -> [u8; 140000]
 
 // Bytes of a linear congruential generator; a quarter of them are from 0 to 7, so that kinds and scales are among them.
 fn fill(bytes: &mut [u8]) {
-    let mut x: u32 = 1;
-    let mut i = 0;
-    while i < bytes.len() {
+    let mut x = 1;
+    for b in bytes.iter_mut() {
         x = next(x);
-        bytes[i] = byte_of(x);
-        i += 1;
+        *b = byte_of(x);
     }
 }
 
 fn next(x: u32) -> u32 {
-    ((x as u64 * 1664525 + 1013904223) % 4294967296) as u32
+    x.wrapping_mul(1664525).wrapping_add(1013904223)
 }
 
 fn byte_of(x: u32) -> u8 {
@@ -42,12 +40,10 @@ fn byte_of(x: u32) -> u8 {
 
 // The n bytes from place n on, for each n, until an output is not taken.
 fn list_all<R: Print + Eprint + Clock>(rt: &R, bytes: &[u8]) {
-    let mut n = 0;
-    while n <= bytes.len() / 2 {
+    for n in 0..=bytes.len() / 2 {
         if !list_one(rt, &bytes[n..n + n]) {
             return;
         }
-        n += 1;
     }
 }
 

@@ -1,5 +1,5 @@
 // Records in place of random bytes, with one of those put among them.
-ghost use Rattle.std.specs.Prelude.{◌≡◌, ◌+◌, ◌<◌, ◌≤◌, length};
+ghost use Rattle.std.specs.Prelude.{◌≡◌, ◌+◌, ◌≤◌, length};
 
 use std::time::Clock;
 
@@ -16,11 +16,12 @@ const RECORDS: [u8; 234] = [
     2, 0,
 ];
 
-// Where the records of a job stand, and how many bytes they have.
+// Where the records of a job stand, which is before the operators, and how many bytes they have.
 #[derive(Clone, Copy)]
 struct Job {
     start: usize,
     len: usize,
+    ghost before_operators: { start + len ≤ 200 },
 }
 
 // What the list program prints for as many bytes of records as there are random ones.
@@ -50,70 +51,48 @@ fn buffer() -> [u8; 70000]
     [0; 70000]
 }
 
-fn job_for(n: usize) -> Job
-    ensures { result.start + result.len ≤ 200 }
-{
-    let t = n / 3 % 5;
-    if t == 0 {
-        return Job { start: 0, len: 44 };
-    }
-    if t == 1 {
-        return Job { start: 44, len: 44 };
-    }
-    if t == 2 {
-        return Job { start: 88, len: 42 };
-    }
-    if t == 3 {
-        return Job {
+fn job_for(n: usize) -> Job {
+    match n / 3 % 5 {
+        0 => Job { start: 0, len: 44 },
+        1 => Job { start: 44, len: 44 },
+        2 => Job { start: 88, len: 42 },
+        3 => Job {
             start: 130,
             len: 34,
-        };
-    }
-    Job {
-        start: 164,
-        len: 36,
+        },
+        _ => Job {
+            start: 164,
+            len: 36,
+        },
     }
 }
 
 // A job, then the two operators again and again.
-fn fill(bytes: &mut [u8], h: Job)
-    requires { h.start + h.len ≤ 200 }
-{
-    let mut i = 0;
-    while i < bytes.len() {
-        bytes[i] = byte(h, i);
-        i += 1;
+fn fill(bytes: &mut [u8], h: Job) {
+    for (i, b) in bytes.iter_mut().enumerate() {
+        *b = byte(h, i);
     }
 }
 
-fn byte(h: Job, i: usize) -> u8
-    requires { h.start + h.len ≤ 200 }
-{
+fn byte(h: Job, i: usize) -> u8 {
     if i < h.len {
-        let at = h.start + i;
-        return RECORDS[at];
+        RECORDS[h.start + i]
+    } else {
+        RECORDS[200 + (i - h.len) % 34]
     }
-    let at = 200 + (i - h.len) % 34;
-    RECORDS[at]
 }
 
 // One of the first n bytes changed where the last record is not whole, so that no list becomes long by it.
 fn spoil(bytes: &mut [u8], n: usize, h: Job, noise: &[u8]) {
-    if noise.len() < 5 {
+    if noise.len() < 5 || is_whole(h, n) {
         return;
     }
-    if is_whole(h, n) {
-        return;
-    }
-    let x = wide(noise[0]) * 65536 + wide(noise[1]) * 256 + wide(noise[2]);
+    let x = u32::from_be_bytes([0, noise[0], noise[1], noise[2]]) as usize;
     put(bytes, n, place(x, noise[3]), noise[4]);
 }
 
 fn is_whole(h: Job, n: usize) -> bool {
-    if n < h.len {
-        return false;
-    }
-    (n - h.len) % 17 == 0
+    h.len <= n && (n - h.len) % 17 == 0
 }
 
 // Among the first 61 bytes for half of the random ones.
@@ -129,10 +108,4 @@ fn put(bytes: &mut [u8], n: usize, x: usize, b: u8) {
     if at < bytes.len() {
         bytes[at] = b;
     }
-}
-
-fn wide(b: u8) -> usize
-    ensures { result < 256 }
-{
-    b as usize
 }

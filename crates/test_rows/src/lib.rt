@@ -1,7 +1,6 @@
-// Tables of text, one row a line: reading them, the numbers of a row, and how many rows differ.
+// Tables of text, one row a line: reading them, the cells and the numbers of a row, and how many rows differ.
 #![tactic(auto)]
 
-ghost use Rattle.std.specs.Prelude.{◌<◌, length};
 ghost use Rattle.io.specs.Counts.{IsPrefixLen};
 
 use std::io::Read;
@@ -9,71 +8,74 @@ use std::rt::Files;
 use std::time::Clock;
 use text_scan::Number;
 
-// How many numbers of a row are kept.
+// How many numbers of a text are kept.
 pub const WIDTH: usize = 144;
 
-// The first numbers of a row, how many there are, how many of them stood before each of the first four bars, and where the row ends.
+// The first numbers of a text, and how many they are.
 #[derive(Clone, Copy)]
-pub struct Row {
-    pub numbers: [i64; WIDTH],
+pub struct Numbers {
+    pub values: [i64; WIDTH],
     pub count: usize,
-    pub before: [usize; 4],
-    pub next: usize,
 }
 
 // How many rows there were, and how many of them differ.
 #[derive(Clone, Copy)]
-pub struct Tally {
-    pub rows: u64,
-    pub different: u64,
+struct Tally {
+    rows: u64,
+    different: u64,
 }
 
 impl Tally {
-    // Of no rows.
-    pub fn new() -> Tally {
-        Tally {
-            rows: 0,
-            different: 0,
+    // Of the lines of a text, those that are not right.
+    fn of<F: Fn(&[u8]) -> bool>(s: &[u8], right: F) -> Tally
+        requires { F.IsAlwaysCallable right }
+    {
+        let mut rows = 0u64;
+        let mut different = 0u64;
+        for row in s.split_inclusive(|b| *b == b'\n') {
+            rows = rows.wrapping_add(1);
+            if !right(row) {
+                different = different.wrapping_add(1);
+            }
         }
-    }
-
-    // With one row more, which is right or not.
-    pub fn with(self, right: bool) -> Tally {
-        Tally {
-            rows: std::num::wrapping_add_u64(self.rows, 1),
-            different: if right {
-                self.different
-            } else {
-                std::num::wrapping_add_u64(self.different, 1)
-            },
-        }
+        Tally { rows, different }
     }
 
     // A line with both numbers, on standard output.
-    pub fn print<R: Print + Eprint + Clock>(self, rt: &R, name: &[u8]) {
+    fn print<R: Print + Eprint + Clock>(self, rt: &R, name: &[u8]) {
         let mut line = io::buffer();
         let n = self.put(&mut line, name);
-        print_first(rt, &line, n);
+        if n <= line.len() {
+            system_streams::print(rt, &line[..n]);
+        }
     }
 
     fn put(self, out: &mut [u8], name: &[u8]) -> usize {
-        let mut at = text::put_bytes(out, 0, name);
-        at = text::put_bytes(out, at, b": rows ");
-        at = text::put_unsigned(out, at, self.rows);
-        at = text::put_bytes(out, at, b", different ");
-        at = text::put_unsigned(out, at, self.different);
+        let at = text::put_bytes(out, 0, name);
+        let at = text::put_bytes(out, at, b": rows ");
+        let at = text::put_unsigned(out, at, self.rows);
+        let at = text::put_bytes(out, at, b", different ");
+        let at = text::put_unsigned(out, at, self.different);
         text::put_byte(out, at, b'\n')
     }
 }
 
-fn print_first<R: Print + Eprint + Clock>(rt: &R, line: &[u8], n: usize) {
-    if n <= line.len() {
-        system_streams::print(rt, &line[..n]);
-    }
+// Reads a table, and prints how many rows it has, and how many of them are not right.
+pub fn compare<R: Files + Print + Eprint + Clock, F: Fn(&[u8]) -> bool>(
+    rt: &R,
+    name: &[u8],
+    file: &[u8],
+    right: F,
+)
+    requires { F.IsAlwaysCallable right }
+{
+    let mut space = io::large_buffer();
+    let n = load(rt, file, &mut space);
+    Tally::of(&space[..n], right).print(rt, name);
 }
 
 // The file's bytes at the start of space, and how many; none where it cannot be opened or read.
-pub fn load<R: Files + Eprint + Clock>(rt: &R, name: &[u8], space: &mut [u8]) -> usize
+fn load<R: Files + Eprint + Clock>(rt: &R, name: &[u8], space: &mut [u8]) -> usize
     ensures { IsPrefixLen result space.new }
 {
     match system_streams::open(rt, name) {
@@ -100,63 +102,27 @@ fn read<F: Read + Drop, R: Eprint + Clock>(
     got.at
 }
 
-// The numbers of the row at `at`, whatever stands between them.
-pub fn row_at(s: &[u8], at: usize) -> Row {
-    let end = text_scan::line_end(s, at);
-    let mut numbers = [0i64; WIDTH];
-    let mut count = 0;
-    let mut before = [0usize; 4];
-    let mut bars = 0;
-    let mut i = at;
-    while i < end {
-        let mut next = i + 1;
-        if let Number::Value(value, after) = text_scan::number_at(s, i) {
-            if count < WIDTH {
-                numbers[count] = value;
+// The n-th of the cells of a row, which bars part, without the space about it; empty where there are fewer.
+pub fn cell(row: &[u8], n: usize) -> &[u8] {
+    row.split(|b| *b == b'|').nth(n).unwrap_or(&[]).trim_ascii()
+}
+
+impl Numbers {
+    // The numbers of a row or of a cell, whatever stands between them.
+    pub fn of(s: &[u8]) -> Numbers {
+        let mut values = [0i64; WIDTH];
+        let mut count = 0;
+        let mut i = 0;
+        // A while: the step is past a number where one stands.
+        while i < s.len() && count < WIDTH {
+            if let Number::Value(value, after) = text_scan::number_at(s, i) {
+                values[count] = value;
                 count += 1;
-            }
-            if i < after {
-                next = after;
-            }
-        } else if i < s.len() {
-            if s[i] == b'|' {
-                if bars < 4 {
-                    before[bars] = count;
-                    bars += 1;
-                }
+                i = after.max(i + 1);
+            } else {
+                i += 1;
             }
         }
-        i = next;
+        Numbers { values, count }
     }
-    Row {
-        numbers,
-        count,
-        before,
-        next: i,
-    }
-}
-
-// Where the row after the one from at to end begins: past at, and at most the length.
-pub fn after(s: &[u8], at: usize, end: usize) -> usize
-    requires { at < length s.now }
-    ensures { at < result }
-{
-    if at <= end {
-        if end < s.len() {
-            return end + 1;
-        }
-    }
-    s.len()
-}
-
-// Whether a byte stands from at to end.
-pub fn has(s: &[u8], at: usize, end: usize, byte: u8) -> bool {
-    let mut i = at;
-    while i < end && i < s.len() {
-        if s[i] == byte {
-            return true;
-        }
-        i += 1;
-    }
-    false
 }

@@ -1,93 +1,74 @@
 // Rows `TAIL | k a b c d`: a matrix of points over √2^k, and its tail.
-use crate::pieces;
-use console_arguments::Four;
+use crate::is_word;
 use gate_theory::State;
 use ring::Point;
-use test_rows::Row;
+use test_rows::Numbers;
 
 // Whether the tail of the row's matrix is the row's.
-pub fn right(s: &[u8], at: usize, r: Row) -> bool {
-    if r.count != 17 {
+pub fn right(row: &[u8]) -> bool {
+    let n = Numbers::of(row);
+    if n.count != 17 {
         return false;
     }
-    let Matrix::State(x) = state_of(r) else {
+    let Some(x) = state_of(n) else {
         return false;
     };
-    is_tail(s, at, x)
+    is_tail(test_rows::cell(row, 0), x)
 }
 
-// A row's matrix as a state, if its second column is that of one.
-#[derive(Clone, Copy)]
-enum Matrix {
-    State(State),
-    Other,
-}
-
-fn state_of(r: Row) -> Matrix {
-    let n = r.numbers;
-    let Four::Point(u) = console_arguments::point_at(&n, 1) else {
-        return Matrix::Other;
-    };
-    let Four::Point(t) = console_arguments::point_at(&n, 9) else {
-        return Matrix::Other;
-    };
-    let l = phase_of(r, u, t);
+fn state_of(row: Numbers) -> Option<State> {
+    let n = row.values;
+    let u = console_arguments::point_at(&n, 1)?;
+    let t = console_arguments::point_at(&n, 9)?;
+    let l = phase_of(row, u, t);
     if l < 8 {
         let k = if n[0] == 0 { 0 } else { 1 };
-        return Matrix::State(State { k, u, t, l });
+        return Some(State { k, u, t, l });
     }
-    Matrix::Other
+    None
 }
 
 // The phase of a row's matrix with the first column u, t; 8 where it has none.
-fn phase_of(r: Row, u: Point, t: Point) -> u32 {
-    let n = r.numbers;
-    let Four::Point(b) = console_arguments::point_at(&n, 5) else {
+fn phase_of(row: Numbers, u: Point, t: Point) -> u32 {
+    let n = row.values;
+    let Some(b) = console_arguments::point_at(&n, 5) else {
         return 8;
     };
-    let Four::Point(d) = console_arguments::point_at(&n, 13) else {
+    let Some(d) = console_arguments::point_at(&n, 13) else {
         return 8;
     };
     phase(u, t, b, d)
 }
 
-// Whether the row begins with the tail of a state, and a bar.
-fn is_tail(s: &[u8], at: usize, x: State) -> bool {
+// Whether a cell is the tail of a state.
+fn is_tail(cell: &[u8], x: State) -> bool {
     let w = gates::tail_word(x);
     let letters = w.letters;
     let len = w.len;
-    if 128 < len {
-        return false;
-    }
-    let next = pieces::past_word(s, at, &letters[..len]);
-    pieces::past(s, next, b" | ") < s.len()
+    len <= 128 && is_word(cell, &letters[..len])
 }
 
 // The l with b = −ω^l t† and d = ω^l u†; 8 where there is none.
 fn phase(u: Point, t: Point, b: Point, d: Point) -> u32 {
     let mut x = minus(dagger(t));
     let mut y = dagger(u);
-    let mut l = 0;
-    while l < 8 {
+    for l in 0..8 {
         if same(x, b) && same(y, d) {
             return l;
         }
         x = turn(x);
         y = turn(y);
-        l += 1;
     }
     8
 }
 
-// −z, of −1, 0 and 1.
+// −z, of −1, 0 and 1; 0 of any other.
 fn opposite(z: i32) -> i32 {
-    if z == 1 {
-        return -1;
+    match z {
+        1 => -1,
+        -1 => 1,
+        _ => 0,
     }
-    if z == -1 {
-        return 1;
-    }
-    0
 }
 
 fn minus(v: Point) -> Point {
@@ -118,5 +99,5 @@ fn turn(v: Point) -> Point {
 }
 
 fn same(v: Point, w: Point) -> bool {
-    v.a == w.a && v.b == w.b && v.c == w.c && v.d == w.d
+    [v.a, v.b, v.c, v.d] == [w.a, w.b, w.c, w.d]
 }

@@ -18,13 +18,10 @@ fn main(rt: HostRuntime) {
 
 // Line by line, until one of them is not taken.
 fn list_all<R: Files + Print + Eprint + Clock>(rt: &R, names: &[u8]) {
-    let mut at = 0;
-    while at < names.len() {
-        let end = text_scan::line_end(names, at);
-        if !list_one(rt, &names[at..end]) {
+    for line in names.split_inclusive(|b| *b == b'\n') {
+        if !list_one(rt, line.strip_suffix(b"\n").unwrap_or(line)) {
             return;
         }
-        at = end + 1;
     }
 }
 

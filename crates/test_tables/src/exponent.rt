@@ -1,29 +1,27 @@
 // Rows `k a b c d e` and `k a b c d e m`.
-use console_arguments::{Byte, Scaled};
-use test_rows::{Row, WIDTH};
+use test_rows::{Numbers, WIDTH};
 
 // Whether the exponent, and the pulse count if the row has one, are the row's.
-pub fn right(row: Row) -> bool {
-    let n = row.numbers;
-    if row.count == 6 {
-        return is_exponent(n);
+pub fn right(row: &[u8]) -> bool {
+    let n = Numbers::of(row);
+    let v = n.values;
+    match n.count {
+        6 => is_exponent(v),
+        7 => is_exponent(v) && is_pulse_count(v[5], v[6]),
+        _ => false,
     }
-    if row.count == 7 {
-        return is_exponent(n) && is_pulse_count(n[5], n[6]);
-    }
-    false
 }
 
 fn is_pulse_count(e: i64, m: i64) -> bool {
-    let Byte::Fits(e) = console_arguments::byte_of(e) else {
+    let Some(e) = console_arguments::byte_of(e) else {
         return false;
     };
-    ring::pulse_count(e as u32) == integers::abs(m)
+    ring::pulse_count(u32::from(e)) == integers::abs(m)
 }
 
 fn is_exponent(n: [i64; WIDTH]) -> bool {
-    let Scaled::Point(k, v) = console_arguments::scaled_at(&n, 0) else {
+    let Some((k, v)) = console_arguments::scaled_at(&n, 0) else {
         return false;
     };
-    v.exponent(k) as i64 == n[5]
+    i64::from(v.exponent(k)) == n[5]
 }

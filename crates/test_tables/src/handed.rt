@@ -1,13 +1,7 @@
-// What a row says of a hand-out: `refused 4`, or the count, yes or no for the end, and the numbers.
-use integers::Narrow;
-use test_rows::{Row, WIDTH};
+// What a row says of a hand-out, in its fourth cell: `refused 4`, or the count, yes or no for the end, and the numbers.
+ghost use Rattle.std.specs.Prelude.{◌≤◌};
 
-// The words of a row.
-#[derive(Clone, Copy)]
-pub struct Said {
-    refused: bool,
-    ended: bool,
-}
+use test_rows::Numbers;
 
 // What a call answered: a refusal, or the count, whether it is the end, and how many numbers were handed out.
 #[derive(Clone, Copy)]
@@ -18,91 +12,36 @@ pub enum Given {
     NotCalled,
 }
 
-// What the bytes from at to end say.
-pub fn read(s: &[u8], at: usize, end: usize) -> Said {
-    Said {
-        refused: test_rows::has(s, at, end, b'r'),
-        ended: test_rows::has(s, at, end, b'y'),
-    }
+// The length that a row lends, in its third cell; 101 for any over 100, which is longer than what is lent here.
+pub fn lent(row: &[u8]) -> usize
+    ensures { result ≤ 101 }
+{
+    let n = Numbers::of(test_rows::cell(row, 2));
+    integers::abs(n.values[0]).min(101) as usize
 }
 
-// The length that a row lends, its number at a place; 101 for any over 100, which is longer than what is lent here.
-pub fn lent(row: Row, at: usize) -> usize {
-    if WIDTH <= at {
-        return 101;
-    }
-    let z = integers::abs(row.numbers[at]);
-    if 100 < z {
-        return 101;
-    }
-    z as usize
-}
-
-// 2n, modulo 2^64.
-pub fn twice(n: usize) -> usize {
-    std::num::wrapping_add_usize(n, n)
-}
-
-// Whether an answer, with its numbers in `out`, is the row's, which begins after the number at `at`.
-pub fn is_answer(g: Given, out: &[i32], row: Row, said: Said, at: usize) -> bool {
-    if 9 < at {
-        return false;
-    }
+// Whether an answer, with its numbers at the front of `out`, is the row's.
+pub fn is_answer(g: Given, out: &[i32], row: &[u8]) -> bool {
+    let said = test_rows::cell(row, 3);
+    let refused = said.starts_with(b"refused");
+    let n = Numbers::of(said);
     match g {
-        Given::Refused => said.refused && row.numbers[at + 1] == 4,
-        Given::Handed(count, ended, n) => {
-            !said.refused && ended == said.ended && are(out, row, at + 1, count, n)
+        Given::Refused => refused && n.values[0] == 4,
+        Given::Handed(count, ended, handed) => {
+            !refused && ended == said.contains(&b'y') && are(out, n, count, handed)
         }
         Given::NotCalled => false,
     }
 }
 
-// Whether a count, and the n numbers handed out, are the row's last numbers, from a place on.
-fn are(out: &[i32], row: Row, from: usize, count: usize, n: usize) -> bool {
-    if 10 < from {
-        return false;
-    }
-    if 400 < n {
-        return false;
-    }
-    if 100 < count {
-        return false;
-    }
-    if count as i64 != row.numbers[from] {
-        return false;
-    }
-    if row.count != from + 1 + n {
-        return false;
-    }
-    same(out, row.numbers, from + 1, n)
-}
-
-// Whether the first n numbers handed out are those of the row from a place on.
-fn same(out: &[i32], numbers: [i64; WIDTH], from: usize, n: usize) -> bool {
-    let mut i = 0;
-    while i < n {
-        if !same_at(out, numbers, from, i) {
-            return false;
-        }
-        i += 1;
-    }
-    true
-}
-
-fn same_at(out: &[i32], numbers: [i64; WIDTH], from: usize, i: usize) -> bool {
-    if i < out.len() {
-        if from < 16 {
-            if from + i < WIDTH {
-                return is_number(out[i], numbers[from + i]);
-            }
-        }
-    }
-    false
-}
-
-fn is_number(x: i32, n: i64) -> bool {
-    match integers::to_i32(n) {
-        Narrow::Fits(z) => x == z,
-        Narrow::TooWide => false,
-    }
+// Whether a count, and the first numbers handed out, are the numbers of a cell.
+fn are(out: &[i32], n: Numbers, count: usize, handed: usize) -> bool {
+    let v = n.values;
+    usize::try_from(v[0]).is_ok_and(|first| first == count)
+        && n.count.checked_sub(1) == Some(handed)
+        && v[1..]
+            .iter()
+            .zip(out)
+            .take(handed)
+            .all(|(x, y)| *x == i64::from(*y))
 }

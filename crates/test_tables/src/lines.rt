@@ -1,55 +1,50 @@
 // Rows `nA lo hi nB lo hi | after | space | answer`: after is a pair or -, the space counts pairs, and the answer is `refused 4` or the count, yes or no for the end, and the pairs.
 use crate::handed;
-use crate::handed::{Given, Said};
-use console_arguments::Ends;
-use integers::Narrow;
-use line::{Answer, Interval, Place};
-use test_rows::Row;
+use crate::handed::Given;
+use line::{Answer, Place};
+use test_rows::Numbers;
 
 // Whether the list of the line problem is the row's.
-pub fn right(row: Row, said: Said) -> bool {
-    let n = row.numbers;
-    if row.before[1] == 6 {
-        return answered(row, said, Place::Beginning, 6);
-    }
-    if row.before[1] != 8 {
-        return false;
-    }
-    let Narrow::Fits(a) = integers::to_i32(n[6]) else {
-        return false;
-    };
-    let Narrow::Fits(b) = integers::to_i32(n[7]) else {
-        return false;
-    };
-    answered(row, said, Place::After(a, b), 8)
-}
-
-// Whether the answer after a place is the row's; the space is the row's number at `at`.
-fn answered(row: Row, said: Said, place: Place, at: usize) -> bool {
+pub fn right(row: &[u8]) -> bool {
     let mut out = [0i32; 200];
-    let g = asked(row, place, &mut out, handed::twice(handed::lent(row, at)));
-    handed::is_answer(g, &out, row, said, at)
+    let g = asked(row, &mut out);
+    handed::is_answer(g, &out, row)
 }
 
-// The answer for a row's intervals, into the first n numbers lent.
-fn asked(row: Row, place: Place, out: &mut [i32], n: usize) -> Given {
-    let z = row.numbers;
-    let Ends::Interval(first) = console_arguments::interval_at(&z, 0) else {
+// The answer for a row's intervals, into as much as the row lends.
+fn asked(row: &[u8], out: &mut [i32]) -> Given {
+    let n = Numbers::of(test_rows::cell(row, 0));
+    let Some(first) = console_arguments::interval_at(&n.values, 0) else {
         return Given::NotCalled;
     };
-    let Ends::Interval(second) = console_arguments::interval_at(&z, 3) else {
+    let Some(second) = console_arguments::interval_at(&n.values, 3) else {
         return Given::NotCalled;
     };
-    given(first, second, place, out, n)
-}
-
-fn given(first: Interval, second: Interval, place: Place, out: &mut [i32], n: usize) -> Given {
-    if out.len() < n {
+    let Some(place) = place_of(row) else {
+        return Given::NotCalled;
+    };
+    let l = 2 * handed::lent(row);
+    if out.len() < l {
         return Given::NotCalled;
     }
-    let a = line::pairs(first, second, place, &mut out[..n]);
-    match a {
-        Answer::Handed(count, ended) => Given::Handed(count, ended, handed::twice(count)),
+    match line::pairs(first, second, place, &mut out[..l]) {
+        Answer::Handed(count, ended) => Given::Handed(count, ended, count.wrapping_mul(2)),
         Answer::Refused => Given::Refused,
     }
+}
+
+// The place after the row's pair; where it has none, the beginning.
+fn place_of(row: &[u8]) -> Option<Place> {
+    let n = Numbers::of(test_rows::cell(row, 1));
+    match n.count {
+        0 => Some(Place::Beginning),
+        2 => after(n.values[0], n.values[1]),
+        _ => None,
+    }
+}
+
+fn after(a: i64, b: i64) -> Option<Place> {
+    let a = integers::to_i32(a)?;
+    let b = integers::to_i32(b)?;
+    Some(Place::After(a, b))
 }

@@ -1,55 +1,45 @@
 // Rows of grid operators: `eight numbers | refusal` and `operator | v | Gv | determinant | inverse`.
-use console_arguments::{Eight, Four};
-use operator::{Check, Inverse, Operator};
-use test_rows::{Row, WIDTH};
+use operator::Operator;
+use test_rows::{Numbers, WIDTH};
 
 // Whether the test of the row's operator comes to the row's number.
-pub fn check_right(row: Row) -> bool {
-    let n = row.numbers;
-    let Eight::Operator(g) = first_of(n) else {
+pub fn check_right(row: &[u8]) -> bool {
+    let n = Numbers::of(row);
+    let Some(g) = console_arguments::operator_at(&n.values, 0) else {
         return false;
     };
-    row.count == 9 && number(g.check()) == n[8]
+    n.count == 9 && number(g.check()) == n.values[8]
 }
 
-// The operator that a row begins with.
-fn first_of(n: [i64; WIDTH]) -> Eight {
-    console_arguments::operator_at(&n, 0)
-}
-
-// The row's inverse.
-fn inverse_of(n: [i64; WIDTH]) -> Eight {
-    console_arguments::operator_at(&n, 17)
-}
-
-fn number(c: Check) -> i64 {
+fn number(c: Result<(), operator::Refusal>) -> i64 {
     match c {
-        Check::Special => 0,
-        Check::OutOfRange => 4,
-        Check::OddParity => 6,
-        Check::NotSpecial => 7,
+        Ok(()) => 0,
+        Err(operator::Refusal::OutOfRange) => 4,
+        Err(operator::Refusal::OddParity) => 6,
+        Err(operator::Refusal::NotSpecial) => 7,
     }
 }
 
 // Whether the image, the determinant and the inverse are the row's.
-pub fn image_right(row: Row) -> bool {
-    let n = row.numbers;
-    let Eight::Operator(g) = first_of(n) else {
+pub fn image_right(row: &[u8]) -> bool {
+    let n = Numbers::of(row);
+    let v = n.values;
+    let Some(g) = console_arguments::operator_at(&v, 0) else {
         return false;
     };
-    let Eight::Operator(h) = inverse_of(n) else {
+    let Some(h) = console_arguments::operator_at(&v, 17) else {
         return false;
     };
-    (row.count == 25) & sends(g, n) & has_determinant(g, n[16]) & inverts(g, h)
+    (n.count == 25) & sends(g, v) & has_determinant(g, v[16]) & inverts(g, h)
 }
 
 // Whether g sends the row's point to the row's image.
 fn sends(g: Operator, n: [i64; WIDTH]) -> bool {
-    let Four::Point(v) = console_arguments::point_at(&n, 8) else {
+    let Some(v) = console_arguments::point_at(&n, 8) else {
         return false;
     };
     let w = g.image(v);
-    (w.a == n[12]) & (w.b == n[13]) & (w.c == n[14]) & (w.d == n[15])
+    [w.a, w.b, w.c, w.d] == [n[12], n[13], n[14], n[15]]
 }
 
 fn has_determinant(g: Operator, p: i64) -> bool {
@@ -59,15 +49,8 @@ fn has_determinant(g: Operator, p: i64) -> bool {
 
 // Whether h is the inverse of g.
 fn inverts(g: Operator, h: Operator) -> bool {
-    let Inverse::Operator(i) = g.inverse() else {
+    let Ok(i) = g.inverse() else {
         return false;
     };
-    (i.a == h.a)
-        & (i.b == h.b)
-        & (i.c == h.c)
-        & (i.d == h.d)
-        & (i.ai == h.ai)
-        & (i.bi == h.bi)
-        & (i.ci == h.ci)
-        & (i.di == h.di)
+    [i.a, i.b, i.c, i.d, i.ai, i.bi, i.ci, i.di] == [h.a, h.b, h.c, h.d, h.ai, h.bi, h.ci, h.di]
 }

@@ -41,11 +41,9 @@ fn print<R: Print + Eprint + Clock>(rt: &R, line: &[u8], n: usize) {
 
 // The sum of what the calls answer.
 fn timed(mode: u8, given: &[u8], out: &mut [u8]) -> u64 {
-    let mut sum = 0;
-    let mut i: u64 = 0;
-    while i < TURNS {
-        sum = std::num::wrapping_add_u64(sum, one(mode, given, out, i));
-        i += 1;
+    let mut sum = 0u64;
+    for i in 0..TURNS {
+        sum = sum.wrapping_add(one(mode, given, out, i));
     }
     sum
 }
@@ -68,16 +66,16 @@ fn prices(i: u64) -> Tariff {
     }
 }
 
-fn ticks(a: gate_tariff::Answer) -> u64 {
+fn ticks(a: Result<(u32, bool), gate_tariff::Refusal>) -> u64 {
     match a {
-        gate_tariff::Answer::Costs(n, _) => n as u64,
-        gate_tariff::Answer::Refused(why) => why.number() as u64,
+        Ok((n, _)) => u64::from(n),
+        Err(why) => u64::from(why.number()),
     }
 }
 
-fn length(a: gate_qasm::Answer) -> u64 {
+fn length(a: Result<usize, gate_qasm::Refusal>) -> u64 {
     match a {
-        gate_qasm::Answer::Wrote(n) => n as u64,
-        gate_qasm::Answer::Refused(why) => why.number() as u64,
+        Ok(n) => n as u64,
+        Err(why) => u64::from(why.number()),
     }
 }

@@ -30,14 +30,15 @@ fn spell(n: Size, digits: &mut [u8]) -> usize
 {
     let mut i = 39;
     let mut rest = n;
+    // A while: it ends at the number's first digit, not at a place.
     while has_tens(rest) {
         let t = divided(rest);
         i -= 1;
-        digits[i] = 48 + t.digit;
+        digits[i] = b'0' + t.digit;
         rest = t.quotient;
     }
     i -= 1;
-    digits[i] = 48 + rest.lo as u8;
+    digits[i] = b'0' + rest.lo as u8;
     i
 }
 
@@ -45,7 +46,7 @@ fn spell(n: Size, digits: &mut [u8]) -> usize
 fn has_tens(n: Size) -> bool
     ensures { result ≡ leb 10 (size_of n) }
 {
-    if 0 < n.hi { true } else { 10 <= n.lo }
+    0 < n.hi || 10 <= n.lo
 }
 
 fn divided(n: Size) -> Tenth

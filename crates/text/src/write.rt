@@ -8,7 +8,7 @@ pub fn put_unsigned(out: &mut [u8], at: usize, n: u64) -> usize
     ensures { (out.new ≡ written out.old at (decimal n)) × (result ≡ after out.old at (decimal n)) }
 {
     if n < 10 {
-        return put_byte(out, at, 48 + n as u8);
+        return put_byte(out, at, b'0' + n as u8);
     }
     if n < 100 {
         return put_two(out, at, n as u8);
@@ -30,22 +30,14 @@ fn put_two(out: &mut [u8], at: usize, n: u8) -> usize
     requires { (10 ≤ n) × (n < 100) }
     ensures { (out.new ≡ written out.old at (decimal n)) × (result ≡ after out.old at (decimal n)) }
 {
-    if out.len() <= at {
-        return at;
-    }
-    if out.len() - at < 2 {
-        return at;
-    }
-    out[at] = 48 + n / 10;
-    out[at + 1] = 48 + n % 10;
-    at + 2
+    put_bytes(out, at, &[b'0' + n / 10, b'0' + n % 10])
 }
 
 // The same of a signed number, '-' before the digits of a negative one.
 pub fn put_signed(out: &mut [u8], at: usize, n: i64) -> usize
     ensures { (out.new ≡ written out.old at (signed_decimal n)) × (result ≡ after out.old at (signed_decimal n)) }
 {
-    let m = integers::abs(n);
+    let m = n.unsigned_abs();
     if n < 0 {
         put_negative(out, at, m)
     } else {
@@ -83,23 +75,10 @@ fn put_negative(out: &mut [u8], at: usize, n: u64) -> usize
 pub fn put_bytes(out: &mut [u8], at: usize, text: &[u8]) -> usize
     ensures { (out.new ≡ written out.old at text.now) × (result ≡ after out.old at text.now) }
 {
-    if out.len() < at {
+    if out.len() < at || out.len() - at < text.len() {
         return at;
     }
-    if out.len() - at < text.len() {
-        return at;
-    }
-    copy(out, at, text);
-    at + text.len()
-}
-
-fn copy(out: &mut [u8], at: usize, text: &[u8])
-    requires { at + length text.now ≤ length out.old }
-    ensures { out.new ≡ take at out.old ++ text.now ++ drop (at + length text.now) out.old }
-{
-    let mut i = 0;
-    while i < text.len() {
-        out[at + i] = text[i];
-        i += 1;
-    }
+    let end = at + text.len();
+    out[at..end].copy_from_slice(text);
+    end
 }

@@ -1,4 +1,5 @@
 -- Hexadecimal digits and the bytes that pairs of them spell. Assumes nothing.
+use Rattle.std.specs.Prelude.{Some, None}
 use Prim.Native.Nat.{ℕ, zero, suc, ◌+◌, ◌-◌, ◌*◌, ◌/◌, ◌%◌, ◌≤◌, ◌<◌}
 use mathlib.Core.Path.{◌≡◌, refl, ap, ◌∙◌}
 use mathlib.Core.Bool.{Bool, true, false, cond}
@@ -11,7 +12,6 @@ use lib.Dec.{ltb, eqb}
 use lib.ListN.{length, get_or, drop, set, drop_of_length-le}
 use lib.Seq.{drop-cons, paste, paste-suc, take_all}
 use Rattle.text_hex.specs.Hex.{digit_of, all_hex, pairs, is_hex, hex_of, hex_written}
-use Rattle.text_hex.specs.declared.Hex.TheVariants.{Bytes, Bad}
 use Rattle.text.proofs.Writing.{put-fits, put-not}
 
 -- ---- one digit
@@ -117,17 +117,17 @@ module _ (w out : List ℕ) where
   unfolding is_hex
   is_odd e = rw (ne_eqb (length w % 2) 0 e) refl
 
-  pub unhex_bad : is_hex w ≡ false → (Bad ≡ hex_of w (length out)) × (out ≡ hex_written w out)
+  pub unhex_bad : is_hex w ≡ false → (None ≡ hex_of w (length out)) × (out ≡ hex_written w out)
   unfolding hex_of hex_written
   unhex_bad e = (rw e refl, rw e refl)
 
-  pub unhex_full : is_hex w ≡ true → length out < length w / 2 → (Bad ≡ hex_of w (length out)) × (out ≡ hex_written w out)
+  pub unhex_full : is_hex w ≡ true → length out < length w / 2 → (None ≡ hex_of w (length out)) × (out ≡ hex_written w out)
   unfolding hex_of hex_written
   unhex_full e h =
       let n : length out < 0 + length (pairs w) = rw (length_pairs w) (omega arith) in
       (rw (e, lt-leb (length w / 2) (length out) h) refl, rw e (put-not out 0 (pairs w) n).0)
 
-  pub unhex_good : is_hex w ≡ true → length w / 2 ≤ length out → (Bytes (length w / 2) ≡ hex_of w (length out)) × (pairs w ++ drop (length w / 2) out ≡ hex_written w out)
+  pub unhex_good : is_hex w ≡ true → length w / 2 ≤ length out → (Some (length w / 2) ≡ hex_of w (length out)) × (pairs w ++ drop (length w / 2) out ≡ hex_written w out)
   unfolding hex_of hex_written
   unhex_good e h =
       let z : 0 + length (pairs w) ≡ length w / 2 = omega (arith, length_pairs w) in

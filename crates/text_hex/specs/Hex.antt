@@ -1,8 +1,6 @@
 -- Bytes written as pairs of hexadecimal digits. They serve the lines of SPEC, "Console". Assumes nothing.
-use Rattle.std.specs.Prelude.{ℕ, ◌+◌, ◌-◌, ◌*◌, ◌/◌, ◌%◌, Bool, true, false, cond, List, [], ◌∷◌, leb, ltb, eqb, length}
+use Rattle.std.specs.Prelude.{ℕ, ◌+◌, ◌-◌, ◌*◌, ◌/◌, ◌%◌, Bool, true, false, cond, List, [], ◌∷◌, leb, ltb, eqb, length, Option, Some, None}
 use Rattle.text.specs.Written.{written}
-use Rattle.text_hex.specs.declared.Hex.{Hex}
-use Rattle.text_hex.specs.declared.Hex.TheVariants.{Bytes, Bad}
 
 abbrev between : ℕ → ℕ → ℕ → Bool
 between lo hi b = cond (leb lo b) (leb b hi) false
@@ -26,8 +24,8 @@ unfoldable pub is_hex : List ℕ → Bool
 is_hex word = cond (eqb (length word % 2) 0) (all_hex word) false
 
 -- how many bytes a word spells, where there is room for them
-unfoldable pub hex_of : List ℕ → ℕ → Hex
-hex_of word room = cond (is_hex word) (cond (leb (length word / 2) room) (Bytes (length word / 2)) Bad) Bad
+unfoldable pub hex_of : List ℕ → ℕ → Option ℕ
+hex_of word room = cond (is_hex word) (cond (leb (length word / 2) room) (Some (length word / 2)) None) None
 
 -- a slice with those bytes at its start, or as it was
 unfoldable pub hex_written : List ℕ → List ℕ → List ℕ

@@ -1,17 +1,15 @@
 -- The number that a word spells: SPEC, "List program".
-use Rattle.std.specs.Prelude.{cond, List, ℕ, ◌^◌, eqb, ℤ, pos, neg_ℤ, length}
+use Rattle.std.specs.Prelude.{cond, List, ℕ, ◌^◌, eqb, ℤ, pos, neg_ℤ, length, Option, Some, None}
 use Rattle.std.specs.Int.Signed.{lt_z}
 use Rattle.text_scan.specs.Number.{Read, value, bad, number_at}
-use Rattle.text_numeral.specs.declared.Numeral.{Numeral}
-use Rattle.text_numeral.specs.declared.Numeral.TheVariants as N
 
 pub data Number : Type 0 where
   some : ℤ → Number
   none : Number
 
-abbrev pub numeral_of : Numeral → Number
-numeral_of (N.Value z) = some z
-numeral_of N.Bad = none
+abbrev pub numeral_of : Option ℤ → Number
+numeral_of (Some z) = some z
+numeral_of None = none
 
 -- −2³¹ to 2³¹ − 1
 abbrev pub narrowed : ℤ → Number

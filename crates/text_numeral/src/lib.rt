@@ -6,15 +6,8 @@ ghost use Rattle.text_numeral.specs.Numeral.{numeral_of, narrowed, word_number, 
 
 use text_scan::Number;
 
-// A number, or no number of 32 bits.
-#[derive(Clone, Copy)]
-pub enum Numeral {
-    Value(i32),
-    Bad,
-}
-
 // The number that a whole word spells: an optional '-' and digits.
-pub fn read(word: &[u8]) -> Numeral
+pub fn read(word: &[u8]) -> Option<i32>
     ensures { numeral_of result ≡ word_number word.now }
 {
     let n = text_scan::number_at(word, 0);
@@ -23,20 +16,20 @@ pub fn read(word: &[u8]) -> Numeral
             if end == word.len() {
                 return narrow(z);
             }
-            Numeral::Bad
+            None
         }
-        Number::Bad => Numeral::Bad,
+        Number::Bad => None,
     }
 }
 
-fn narrow(z: i64) -> Numeral
+fn narrow(z: i64) -> Option<i32>
     ensures { numeral_of result ≡ narrowed z }
 {
     if z < -2147483648 {
-        return Numeral::Bad;
+        return None;
     }
     if 2147483647 < z {
-        return Numeral::Bad;
+        return None;
     }
-    Numeral::Value(z as i32)
+    Some(z as i32)
 }

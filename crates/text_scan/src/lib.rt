@@ -83,26 +83,23 @@ pub fn line_end(s: &[u8], at: usize) -> usize
 pub fn run_end(s: &[u8], at: usize, b: u8, same: bool) -> usize
     ensures { result ≡ end_of_run (is_byte b same) s.now at }
 {
-    let mut i = at;
-    while i < s.len() {
+    for i in at..s.len() {
         if (s[i] == b) != same {
             return i;
         }
-        i += 1;
     }
-    i
+    at.max(s.len())
 }
 
 // Sign and digits at a place, for numbers of every size up to two words.
 fn spelled_at(s: &[u8], at: usize) -> Spelled
     ensures { (top : ℕ) → top ≤ 2 ^ 127 → fitted top (spelled_of result) ≡ number_at top s.now at }
 {
-    if at < s.len() {
-        if s[at] == b'-' {
-            return spelled_from(true, s, at + 1);
-        }
+    if at < s.len() && s[at] == b'-' {
+        spelled_from(true, s, at + 1)
+    } else {
+        spelled_from(false, s, at)
     }
-    spelled_from(false, s, at)
 }
 
 // The digits that begin at `at`, with a minus before them or not.
@@ -124,19 +121,17 @@ fn digits_from(s: &[u8], at: usize) -> Digits
     ensures { (min (size_of result.value) (2 ^ 127 + 1) ≡ min (value_of (digits_at s.now at)) (2 ^ 127 + 1)) × (result.end ≡ end_of_run is_digit s.now at) }
 {
     let mut value = Size { hi: 0, lo: 0 };
-    let mut end = at;
-    while end < s.len() {
+    for end in at..s.len() {
         let b = s[end];
-        if b < 48 {
-            break;
-        }
-        if b > 57 {
-            break;
+        if b < b'0' || b'9' < b {
+            return Digits { value, end };
         }
         value = grown(value, b);
-        end += 1;
     }
-    Digits { value, end }
+    Digits {
+        value,
+        end: at.max(s.len()),
+    }
 }
 
 // A value with one more digit; above 2^127 any that is.
@@ -150,15 +145,12 @@ fn grown(value: Size, b: u8) -> Size
             lo: u64::MAX,
         };
     }
-    let d = (b - 48) as u64;
+    let d = u64::from(b - b'0');
     let low = Size::product(value.lo, 10);
     let hi = value.hi * 10 + low.hi;
     let room = u64::MAX - d;
     if low.lo <= room {
-        Size {
-            hi: hi,
-            lo: low.lo + d,
-        }
+        Size { hi, lo: low.lo + d }
     } else {
         Size {
             hi: hi + 1,
@@ -201,7 +193,7 @@ fn negative(n: u64) -> i64
     requires { n ≤ 2 ^ 63 }
     ensures { result ≡ neg_ℤ (pos n) }
 {
-    if n == 0 { 0 } else { -1 - ((n - 1) as i64) }
+    (-i128::from(n)) as i64
 }
 
 // A number with its sign, where it fits two words.

@@ -1,5 +1,5 @@
 -- The numbers of a line. They serve the lines of SPEC, "Console". Assumes nothing.
-use Rattle.std.specs.Prelude.{ℕ, zero, suc, ◌^◌, ◌<◌, ◌≤◌, ◌≡◌, Bool, true, false, cond, List, [], ◌∷◌, ◌++◌, ltb, leb, eqb, ℤ, nat_abs, length, get_or, take}
+use Rattle.std.specs.Prelude.{ℕ, zero, suc, ◌^◌, ◌<◌, ◌≤◌, ◌≡◌, Bool, true, false, cond, List, [], ◌∷◌, ◌++◌, ltb, leb, eqb, ℤ, nat_abs, length, get_or, take, Option, Some, None}
 use Rattle.std.proofs.Math.Path.{refl}
 use Rattle.std.specs.Int.Signed.{non_neg}
 use borrow.Author.Tests.{lt-ltb, le-ltb, le-leb, lt-leb}
@@ -10,8 +10,6 @@ use Rattle.text_scan.specs.Number.{Read, value, number_at}
 use Rattle.text_words.specs.declared.Numbers.{Numbers}
 use Rattle.text_words.specs.declared.Pair.{Pair}
 use Rattle.text_words.specs.declared.Pair.TheVariants as pair
-use Rattle.text_words.specs.declared.Slice.{Slice}
-use Rattle.text_words.specs.declared.Slice.TheVariants.{Length, TooLong}
 
 -- the numbers, or a line that is not read
 pub data Listed : Type 0 where
@@ -187,18 +185,18 @@ module _ (line : List ℕ) (from : ℕ) where
       pair-both h = rw (one, two, le-ltb end (length line) h) refl
 
 -- a length from 0 to top
-unfoldable pub length_of : ℕ → ℤ → Slice
-length_of top n = cond (non_neg n) (cond (leb (nat_abs n) top) (Length (nat_abs n)) TooLong) TooLong
+unfoldable pub length_of : ℕ → ℤ → Option ℕ
+length_of top n = cond (non_neg n) (cond (leb (nat_abs n) top) (Some (nat_abs n)) None) None
 
 module _ (top : ℕ) (n : ℤ) where
-  pub length-negative : non_neg n ≡ false → length_of top n ≡ TooLong
+  pub length-negative : non_neg n ≡ false → length_of top n ≡ None
   unfolding length_of
   length-negative e = rw e refl
 
-  pub length-within : non_neg n ≡ true → nat_abs n ≤ top → length_of top n ≡ Length (nat_abs n)
+  pub length-within : non_neg n ≡ true → nat_abs n ≤ top → length_of top n ≡ Some (nat_abs n)
   unfolding length_of
   length-within e h = rw (e, le-leb (nat_abs n) top h) refl
 
-  pub length-long : non_neg n ≡ true → top < nat_abs n → length_of top n ≡ TooLong
+  pub length-long : non_neg n ≡ true → top < nat_abs n → length_of top n ≡ None
   unfolding length_of
   length-long e h = rw (e, lt-leb (nat_abs n) top h) refl

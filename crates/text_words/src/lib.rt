@@ -103,13 +103,6 @@ pub enum Pair {
     Bad,
 }
 
-// The length of a slice to be lent.
-#[derive(Clone, Copy)]
-pub enum Slice {
-    Length(usize),
-    TooLong,
-}
-
 // The command that a word names; one that names none is past the last.
 pub fn command_of(word: &[u8]) -> usize
     ensures { result ≡ place_of word.now names }
@@ -130,6 +123,7 @@ pub fn place_of(word: &[u8], text: &[u8]) -> usize
 {
     let mut at = 0;
     let mut i = 0;
+    // A while: the step is a word and the byte behind it.
     while at < text.len() {
         let end = text_scan::word_end(text, at);
         if check::same(word, &text[at..end]) {
@@ -174,6 +168,7 @@ fn leading(line: &[u8], from: usize, most: usize) -> Numbers
     let mut values = [0i64; 16];
     let mut count = 0;
     let mut at = text_scan::spaces_from(line, from);
+    // A while: the step is a word and the spaces behind it.
     while at < line.len() {
         if most <= count {
             return counted(values, count, at);
@@ -228,7 +223,7 @@ fn word_at(line: &[u8], at: usize) -> Number
     }
 }
 
-// The same for a number of two words.
+// The same for a number of two words. The two stay apart, since their answers are types of their own.
 fn wide_word_at(line: &[u8], at: usize) -> WideNumber
     ensures { wide_read_of result ≡ word_at (2 ^ 127) line.now at }
 {
@@ -245,13 +240,11 @@ fn wide_word_at(line: &[u8], at: usize) -> WideNumber
 }
 
 // Whether a word ends at a place.
+#[tactic(auto, unfolding(crate::specs::Numbers::ends_word))]
 fn ends_word(line: &[u8], at: usize) -> bool
     ensures { result ≡ ends_word line.now at }
 {
-    if at < line.len() {
-        return line[at] == b' ';
-    }
-    true
+    line.len() <= at || line[at] == b' '
 }
 
 // Two numbers of two words from a place on, where there is nothing else.
@@ -273,28 +266,25 @@ pub fn pair_from(line: &[u8], from: usize) -> Pair
 }
 
 // The length of a slice of numbers or letters to be lent: from 0 to 4,096.
-pub fn lent(n: i64) -> Slice
+pub fn lent(n: i64) -> Option<usize>
     ensures { result ≡ length_of 4096 n }
 {
     length_to(n, 4096)
 }
 
 // The length of a slice for a text or a sheet to be lent: from 0 to 65,536.
-pub fn room(n: i64) -> Slice
+pub fn room(n: i64) -> Option<usize>
     ensures { result ≡ length_of 65536 n }
 {
     length_to(n, 65536)
 }
 
-fn length_to(n: i64, top: u64) -> Slice
+#[tactic(auto, unfolding(crate::specs::Numbers::length_of))]
+fn length_to(n: i64, top: usize) -> Option<usize>
     ensures { result ≡ length_of top n }
 {
-    if !integers::is_nonneg(n) {
-        return Slice::TooLong;
+    match usize::try_from(n) {
+        Ok(m) if m <= top => Some(m),
+        _ => None,
     }
-    let m = integers::abs(n);
-    if m <= top {
-        return Slice::Length(m as usize);
-    }
-    Slice::TooLong
 }

@@ -1,13 +1,11 @@
 -- What a session of trays and its answers mean, in the model of `tray_model`. Every value of the type has a meaning.
-use Rattle.std.specs.Prelude.{◌≡◌, refl, Bool, List, [], ℕ, ◌/◌, ℤ, length, drop}
+use Rattle.std.specs.Prelude.{◌≡◌, refl, Bool, List, [], ℕ, ◌/◌, ℤ, length, drop, Option, Some, None, Result, Ok, Err}
 use Rattle.std.proofs.Common.{sym, ap, ◌∙◌}
 use Rattle.ring.specs.declared.Point.{Point}
 use Rattle.ranks.specs.Rest.{at, is_ended, left_at}
 use Rattle.ranks.proofs.Rest.{ended-nil}
 use Rattle.ranks.specs.Rank.{top}
 use Rattle.ranks.specs.Handed.{Gave}
-use Rattle.walk_list.specs.declared.Spot.{Spot}
-use Rattle.walk_list.specs.declared.Spot.TheVariants as P
 use Rattle.cuts.specs.Digits.{span}
 use Rattle.walk_list.specs.Walk.{spot_of}
 use Rattle.tray_model.specs.Session.{World, Call, handOut, refused, taken, handed, done, early, walking, given, step, lent}
@@ -18,8 +16,6 @@ use Rattle.record_kinds.specs.declared.Refusal.TheVariants.{Ended}
 use Rattle.tray_taking.specs.declared.Refusal.{Refusal}
 use Rattle.tray_taking.specs.declared.Refusal.TheVariants as F
 use Rattle.tray_taking.specs.declared.Answer as T
-use Rattle.tray_taking.specs.declared.Verdict.{Verdict}
-use Rattle.tray_taking.specs.declared.Verdict.TheVariants as Said
 use Rattle.tray_taking.specs.Taking.{Given, takes, take_of, number_of, no_tray}
 use Rattle.tray.specs.declared.Stage.{Stage}
 use Rattle.tray.specs.declared.Stage.TheVariants as S
@@ -77,25 +73,25 @@ abbrev pub Hands : Session → List ℤ → List ℤ → Session → Answer → 
 Hands s old new t a = Gives (step world (handOut old) (meaning s)) old new t a
 
 -- a hand-out from a spot on
-pub gave_gives : (t : Tray) (from spot : Spot) (old new : List ℤ) (count : ℕ) (e : Bool)
+pub gave_gives : (t : Tray) (from spot : Option Point) (old new : List ℤ) (count : ℕ) (e : Bool)
     → Gave (five_of t) 5 (left_at (any_at t) (top span) (spot_of from)) old (length old / 5) count new (spot_of spot) → e ≡ is_ended (spot_of spot)
     → Gives (given world t old (left_at (any_at t) (top span) (spot_of from))) old new (record { stage = S.Walking spot; tray = t }) (A.Handed count e)
 gave_gives t from spot old new count e g h =
     let k = h ∙ ap is_ended g.place ∙ ended-nil (drop (length old / 5) (left_at (any_at t) (top span) (spot_of from))) in
     record { met = λ i. (handed (g.count i) (k i) (g.slice i), walking t (g.place i)); slice = g.slice }
 
-pub spot-hands : (t : Tray) (p : Spot) (v : Point) (old : List ℤ) → p ≡ P.At v
+pub spot-hands : (t : Tray) (p : Option Point) (v : Point) (old : List ℤ) → p ≡ Some v
     → step world (handOut old) (walking t (spot_of p)) ≡ given world t old (left_at (any_at t) (top span) (spot_of p))
 spot-hands t p v old e = rw e refl
 
 -- a take: the tray begins, or nothing changes
-module _ (m : Model.Session world) (t : Tray) (x : Model.Taking Tray) (v : Verdict) (h : take_of v t ≡ x) where
-  pub took_taken : v ≡ Said.Taken → (taken t.count, walking t (at 0)) ≡ Model.begun world m x
+module _ (m : Model.Session world) (t : Tray) (x : Model.Taking Tray) (v : Result Unit Refusal) (h : take_of v t ≡ x) where
+  pub took_taken : v ≡ (Ok tt) → (taken t.count, walking t (at 0)) ≡ Model.begun world m x
   took_taken e = ap (Model.begun world m) (ap (λ w. take_of w t) (sym e) ∙ h)
 
-  pub took_refused : (f : Refusal) → v ≡ Said.Refused f → (refused (number_of f), m) ≡ Model.begun world m x
+  pub took_refused : (f : Refusal) → v ≡ Err f → (refused (number_of f), m) ≡ Model.begun world m x
   took_refused f e = ap (Model.begun world m) (ap (λ w. take_of w t) (sym e) ∙ h)
 
 -- past the end
-pub end-hands : (s : Session) (old : List ℤ) → s.stage ≡ S.Walking P.Ended → Gives (step world (handOut old) (meaning s)) old old s (A.Refused (F.Record Ended))
+pub end-hands : (s : Session) (old : List ℤ) → s.stage ≡ S.Walking None → Gives (step world (handOut old) (meaning s)) old old s (A.Refused (F.Record Ended))
 end-hands s old e = record { met = rw e refl; slice = rw e refl }

@@ -10,17 +10,16 @@ ghost use Rattle.walk_list.specs.Walk.{spot_of};
 ghost use Rattle.tray_list.specs.Tray.{any_at};
 ghost use Rattle.tray.specs.Session.{world, meaning, outcome, fresh, Steps, Takes, Gives, Hands};
 
+use ring::Point;
 use session_stages::place;
 use tray_list::Tray;
 pub use tray_taking::Refusal;
-use tray_taking::Verdict;
-use walk::Spot;
 
 // Whether a tray was taken, and where its walk stands.
 #[derive(Clone, Copy)]
 pub enum Stage {
     Early,
-    Walking(Spot),
+    Walking(Option<Point>),
 }
 
 #[derive(Clone, Copy)]
@@ -79,8 +78,8 @@ pub fn taken(s: Session, g: tray_taking::Answer) -> Outcome
     let v = g.verdict;
     let t = g.tray;
     match v {
-        Verdict::Taken => begun(t, Answer::Taken(t.count)),
-        Verdict::Refused(f) => refused(s, f),
+        Ok(()) => begun(t, Answer::Taken(t.count)),
+        Err(f) => refused(s, f),
     }
 }
 
@@ -96,14 +95,14 @@ pub fn hand_out(s: Session, out: &mut [i32]) -> Outcome
 }
 
 // With a tray: after the end was reported it is refused.
-fn from_spot(s: Session, p: Spot, out: &mut [i32]) -> Outcome
+fn from_spot(s: Session, p: Option<Point>, out: &mut [i32]) -> Outcome
     requires { s.stage ≡ Stage.Walking p }
     ensures { Hands s out.old out.new result.session result.answer }
 {
     let t = s.tray;
     match p {
-        Spot::At(_) => handed(t, p, out),
-        Spot::Ended => refused(s, Refusal::Record(record::Refusal::Ended)),
+        Some(_) => handed(t, p, out),
+        None => refused(s, Refusal::Record(record::Refusal::Ended)),
     }
 }
 
@@ -149,7 +148,7 @@ fn begun(t: Tray, a: Answer) -> Outcome
 }
 
 // What is left from the spot on.
-fn handed(t: Tray, p: Spot, out: &mut [i32]) -> Outcome
+fn handed(t: Tray, p: Option<Point>, out: &mut [i32]) -> Outcome
     ensures { Gives (given world t out.old (left_at (any_at t) (top span) (spot_of p))) out.old out.new result.session result.answer }
 {
     let h = tray_merge::hand_out(t, p, out);

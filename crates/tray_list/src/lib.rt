@@ -27,14 +27,11 @@ pub fn job(t: Tray, j: usize) -> Job
     requires { j < 8 }
     ensures { result ≡ job_at t j }
 {
-    let g = t.targets[j];
-    let a = g.region;
-    let b = t.b;
     Job {
         k: t.k,
         all: t.all,
-        a: a,
-        b: b,
+        a: t.targets[j].region,
+        b: t.b,
     }
 }
 
@@ -42,5 +39,5 @@ pub fn job(t: Tray, j: usize) -> Job
 pub fn size(t: Tray) -> usize
     ensures { result ≡ size t }
 {
-    if t.count < 8 { t.count } else { 8 }
+    t.count.min(8)
 }

@@ -1,5 +1,6 @@
 -- The lanes of a tray's regions, and where the tray's list goes on.
-use Rattle.std.specs.Prelude.{◌≡◌, refl, Bool, true, false, cond, ◌⊎◌, ℕ, zero, suc, ◌+◌, ◌*◌, ◌^◌, ◌≤◌, ◌<◌, ℤ, pos, length, get_or, set, drop, replicate}
+use Rattle.ring.specs.declared.Point.{Point}
+use Rattle.std.specs.Prelude.{◌≡◌, refl, Bool, true, false, cond, ◌⊎◌, ℕ, zero, suc, ◌+◌, ◌*◌, ◌^◌, ◌≤◌, ◌<◌, ℤ, pos, length, get_or, set, drop, replicate, Option, Some, None, Ok}
 use Rattle.std.proofs.Common.{sym, ap, ap₂, subst, ◌∙◌, inl, inr, ⊎_elim, add-zero, add-one, arith, length-set, get_or-set_same, get_or-set_other, eqb-true}
 use mathlib.Core.List.{List, [], ◌∷◌, Memᴰ}
 use Rattle.std.proofs.Math.Nat.{min-le_right}
@@ -13,15 +14,15 @@ use Rattle.ranks.proofs.Rest.{rest-hit, rest-miss, rest-skip, next-drop, next-be
 use Rattle.ranks.specs.Rank.{top}
 use Rattle.ranks.proofs.Members.{rest-sound, rest-complete}
 use Rattle.cuts.specs.Digits.{span}
-use Rattle.walk_list.specs.declared.Spot.{Spot}
-use Rattle.walk_list.specs.declared.Spot.TheVariants as S
 use Rattle.walk_list.specs.Walk.{listed_at, rank_of, spot_of}
 use Rattle.walk_list.specs.Walk as One
 use Rattle.tray_list.specs.declared.Tray.{Tray}
 use Rattle.tray_list.specs.Tray.{some, bits, job_at, holds, size, any_at, mask_at, left}
 use Rattle.tray_list.proofs.Bits.{some_of}
 use Rattle.tray_list.specs.Nearer.{nearer, is_at, at-hit, place-either, none_left}
-use Rattle.walk.specs.declared.Prepared.TheVariants as P
+use Rattle.cuts.specs.declared.Bounds.{Bounds}
+use Rattle.cuts.specs.declared.Cut.{Cut}
+use Rattle.cuts.specs.declared.Strip.{Strip}
 use Rattle.walk.specs.Prepared.{job_of, Prepares}
 use Rattle.tray_merge.specs.declared.lanes.Source.{Source}
 use Rattle.tray_merge.specs.declared.lanes.Mark.{Mark}
@@ -30,13 +31,16 @@ use Rattle.tray_merge.specs.Lane.{left_of, content, front_of, front-none, conten
 
 -- what is read beyond an array's end
 abbrev pub no_mark : Mark
-no_mark = record { spot = S.At (record { a = pos 0; b = pos 0; c = pos 0; d = pos 0 }) }
+no_mark = record { spot = None }
 
 abbrev pub no_source : Source
 no_source =
     let r = Shape.Rectangle (record { n = 0; xl = pos 0; xh = pos 0; yl = pos 0; yh = pos 0 }) in
     let j : Job = record { k = 0; all = false; a = r; b = r } in
-    record { job = j; near = false; walk = P.Refused j }
+    let c : Cut = record { p = pos 0; q = pos 0; a = pos 0; b = pos 0; c = pos 0; d = pos 0 } in
+    let s : Strip = record { low = c; high = c } in
+    let n : Bounds = record { job = j; a = s; ea = s; eb = s; a2 = s; b3 = s; b = s; b2 = s; ya = s; yb = s; yc = s; xa = s; xb = s } in
+    record { job = j; near = false; walk = Ok n }
 
 abbrev pub source_at : List Source → ℕ → Source
 source_at ls i = get_or ls i no_source
@@ -108,9 +112,9 @@ pub record Lanes (t : Tray) (J : ℕ → Job) (p : ℕ) (q : List ℤ) (xs es : 
   pub told : Told' (size t) xs es ws (at p)
 
 -- the same at the point where the walk stands
-abbrev pub Stands : Tray → (ℕ → Job) → Spot → List ℤ → List ℕ → List ℕ → List Mark → Type 0
-Stands t J (S.At v) q xs es ws = Lanes t J (rank_of v) q xs es ws
-Stands t J S.Ended q xs es ws = Unit {0}
+abbrev pub Stands : Tray → (ℕ → Job) → Option Point → List ℤ → List ℕ → List ℕ → List Mark → Type 0
+Stands t J (Some v) q xs es ws = Lanes t J (rank_of v) q xs es ws
+Stands t J None q xs es ws = Unit {0}
 
 -- where the list of the first i regions begins
 abbrev first_of : Tray → ℕ → ℕ → Place
@@ -180,10 +184,10 @@ module _ (t : Tray) (p r : ℕ) (e : place_of (left t p) ≡ at r) where
   same_left i h = rest-skip (listed_at (job_at t i)) (top span) p r from_on (λ x a b. none_before x a b i h (listed_at (job_at t i) x) refl)
 
 -- so the lanes stand where the walk does
-pub stands_on : (t : Tray) (J : ℕ → Job) (p : ℕ) (q : List ℤ) (xs es : List ℕ) (ws : List Mark) (s : Spot) → spot_of s ≡ place_of (left t p) → Has t J p q xs es ws → Within (size t) xs es → Told' (size t) xs es ws (place_of (left t p))
+pub stands_on : (t : Tray) (J : ℕ → Job) (p : ℕ) (q : List ℤ) (xs es : List ℕ) (ws : List Mark) (s : Option Point) → spot_of s ≡ place_of (left t p) → Has t J p q xs es ws → Within (size t) xs es → Told' (size t) xs es ws (place_of (left t p))
     → Stands t J s q xs es ws
-stands_on t J p q xs es ws (S.At v) e h w f = record { has = λ i b. h i b ∙ same_left t p (rank_of v) (sym e) i b; within = w; told = subst (Told' (size t) xs es ws) (sym e) f }
-stands_on t J p q xs es ws S.Ended e h w f = tt
+stands_on t J p q xs es ws (Some v) e h w f = record { has = λ i b. h i b ∙ same_left t p (rank_of v) (sym e) i b; within = w; told = subst (Told' (size t) xs es ws) (sym e) f }
+stands_on t J p q xs es ws None e h w f = tt
 
 -- ---- lanes behind a point
 bits-same : (n : ℕ) (f g : ℕ → Bool) → ((i : ℕ) → i < n → f i ≡ g i) → bits n f ≡ bits n g
@@ -349,7 +353,7 @@ module _ (J : ℕ → Job) (n : ℕ) (q₀ : List ℤ) (xs₀ es₀ : List ℕ) 
       go i b (no m) = let u : j ≡ i = omega arith in subst (λ (k : ℕ). get_or xs k 0 ≡ get_or es k 0 → past (mark_at ws k) w ≡ true) u f
 
   -- it is, and is filled
-  module _ (in-tray : j < n) (few : j < 8) (spent : get_or xs j 0 ≡ get_or es j 0) (q' : List ℤ) (count : ℕ) (s : Spot) (else : Elsewhere j q q') (sized : length q' ≡ 16384) (now : content (J j) q' j 0 count (spot_of s) ≡ left_of (J j) (mark_at ws j)) (most : count ≤ 512) (over : 0 ≡ count → spot_of s ≡ ended) where
+  module _ (in-tray : j < n) (few : j < 8) (spent : get_or xs j 0 ≡ get_or es j 0) (q' : List ℤ) (count : ℕ) (s : Option Point) (else : Elsewhere j q q') (sized : length q' ≡ 16384) (now : content (J j) q' j 0 count (spot_of s) ≡ left_of (J j) (mark_at ws j)) (most : count ≤ 512) (over : 0 ≡ count → spot_of s ≡ ended) where
     abbrev mark : Mark
     mark = record { spot = s }
 

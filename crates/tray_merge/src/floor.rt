@@ -8,20 +8,19 @@ use cuts::directions::{BACK, FINE, strip};
 use region::Job;
 use ring::Point;
 use ring_points::digit;
-use walk::Spot;
 
 // A place with the same listed points left as a point has.
-pub(crate) fn floor(job: Job, from: Point) -> Spot
+pub(crate) fn floor(job: Job, from: Point) -> Option<Point>
     ensures { left_of job (spot_of result) ≡ left job (rank_of from) }
 {
     if job.is_accepted() {
         return raised(job, from);
     }
-    Spot::At(from)
+    Some(from)
 }
 
 // The same of an accepted job: the first place with an a that the cuts leave.
-fn raised(job: Job, from: Point) -> Spot
+fn raised(job: Job, from: Point) -> Option<Point>
     requires { accepted_job job ≡ true }
     ensures { left_of job (spot_of result) ≡ left job (rank_of from) }
 {
@@ -29,25 +28,18 @@ fn raised(job: Job, from: Point) -> Spot
     let a = digit(from.a);
     let r = cuts_bounds::range_a(job, s, s, a);
     if r.end <= r.start {
-        return Spot::Ended;
+        return None;
     }
     if a < r.start {
-        return Spot::At(cuts_columns::point(r.start, 0, 0, 0));
+        return Some(cuts_columns::point(r.start, 0, 0, 0));
     }
-    Spot::At(from)
+    Some(from)
 }
 
 // Whether bounds are worth finding for a walk from s on, where the nearest goes on at w.
-pub(crate) fn is_near(s: Spot, w: Spot) -> bool {
-    match s {
-        Spot::At(p) => has_come_to(w, p),
-        Spot::Ended => false,
-    }
-}
-
-fn has_come_to(w: Spot, p: Point) -> bool {
-    match w {
-        Spot::At(q) => p.a <= q.a,
-        Spot::Ended => false,
+pub(crate) fn is_near(s: Option<Point>, w: Option<Point>) -> bool {
+    match (s, w) {
+        (Some(p), Some(q)) => p.a <= q.a,
+        _ => false,
     }
 }

@@ -9,10 +9,11 @@ ghost use Rattle.tray_merge.specs.Lane.{point_ranked, front_of, left_of, content
 ghost use Rattle.tray_merge.specs.Lanes.{Made, source_at, mark_at, front_at, Floors, Ready, Within, Stepped, Refilled};
 
 use crate::{floor, order};
+use cuts::Bounds;
 use region::Job;
 use ring::Point;
 use tray_list::Tray;
-use walk::{Handed, Prepared, Spot};
+use walk::Handed;
 
 // So many points of a region are queued at most.
 const LANE: usize = 512;
@@ -22,13 +23,13 @@ const LANE: usize = 512;
 pub(crate) struct Source {
     pub job: Job,
     pub near: bool,
-    pub walk: Prepared,
+    pub walk: Result<Bounds, Job>,
 }
 
 // Where a region's walk goes on behind its queue.
 #[derive(Clone, Copy)]
 pub(crate) struct Mark {
-    pub spot: Spot,
+    pub spot: Option<Point>,
 }
 
 // A lane behind a point: 1 if the point was its front, else 0; the place of its front, and the front.
@@ -36,14 +37,14 @@ pub(crate) struct Mark {
 struct Behind {
     held: u32,
     at: usize,
-    front: Spot,
+    front: Option<Point>,
 }
 
 // All lanes behind a point: the regions that listed it, and the nearest of the points that are queued.
 #[derive(Clone, Copy)]
 pub(crate) struct Step {
     pub mask: u32,
-    pub spot: Spot,
+    pub spot: Option<Point>,
 }
 
 pub(crate) fn queue() -> [i32; 16384]
@@ -57,29 +58,23 @@ pub(crate) fn floors(t: Tray, from: Point) -> [Mark; 8]
     ensures { Floors t (at (rank_of from)) result }
 {
     let size = tray_list::size(t);
-    let mut marks = [Mark { spot: Spot::Ended }; 8];
-    let mut j = 0;
-    while j < size {
+    let mut marks = [Mark { spot: None }; 8];
+    for j in 0..size {
         let spot = floor::floor(tray_list::job(t, j), from);
-        marks[j] = Mark { spot: spot };
-        j += 1;
+        marks[j] = Mark { spot };
     }
     marks
 }
 
 // The jobs of a tray's regions, with bounds where its walk goes on near the nearest spot.
-pub(crate) fn open(t: Tray, marks: [Mark; 8], near: Spot) -> [Source; 8]
+pub(crate) fn open(t: Tray, marks: [Mark; 8], near: Option<Point>) -> [Source; 8]
     ensures { Ready t result }
 {
     let size = tray_list::size(t);
     let mut sources = [made(tray_list::job(t, 0), false); 8];
-    let mut j = 0;
-    while j < size {
+    for j in 0..size {
         let job = tray_list::job(t, j);
-        let m = marks[j];
-        let spot = m.spot;
-        sources[j] = made(job, floor::is_near(spot, near));
-        j += 1;
+        sources[j] = made(job, floor::is_near(marks[j].spot, near));
     }
     sources
 }
@@ -87,18 +82,8 @@ pub(crate) fn open(t: Tray, marks: [Mark; 8], near: Spot) -> [Source; 8]
 fn made(job: Job, near: bool) -> Source
     ensures { Made job result }
 {
-    if near {
-        return Source {
-            job: job,
-            near: true,
-            walk: walk::prepare(job),
-        };
-    }
-    Source {
-        job: job,
-        near: false,
-        walk: Prepared::Refused(job),
-    }
+    let walk = if near { walk::prepare(job) } else { Err(job) };
+    Source { job, near, walk }
 }
 
 // The point at a place of the queue.
@@ -115,14 +100,14 @@ fn point_at(queue: &[i32], k: usize) -> Point
 }
 
 // The front of lane number j, whose place is i and whose queue ends at e.
-fn front(queue: &[i32], j: usize, i: usize, e: usize) -> Spot
+fn front(queue: &[i32], j: usize, i: usize, e: usize) -> Option<Point>
     requires { (j < 8) × (e ≤ 512) × (16384 ≡ length queue.now) }
     ensures { spot_of result ≡ front_of queue.now j i e }
 {
     if i < e {
-        return Spot::At(point_at(queue, 2048 * j + 4 * i));
+        return Some(point_at(queue, 2048 * j + 4 * i));
     }
-    Spot::Ended
+    None
 }
 
 // The lane of region number j behind a point that none comes before.
@@ -159,34 +144,31 @@ pub(crate) fn advance(
 {
     let mut mask: u32 = 0;
     let mut bit: u32 = 1;
-    let mut spot = Spot::Ended;
-    let mut j = 0;
-    while j < size {
+    let mut spot = None;
+    for j in 0..size {
         let p = pass(queue, j, at[j], end[j], v);
         at[j] = p.at;
         mask += p.held * bit;
         bit *= 2;
-        let f = p.front;
-        spot = order::nearer(spot, f);
-        j += 1;
+        spot = order::nearer(spot, p.front);
     }
-    Step {
-        mask: mask,
-        spot: spot,
-    }
+    Step { mask, spot }
 }
 
 // The nearest of the points that are queued.
-pub(crate) fn nearest(queue: &[i32], at: &[usize; 8], end: &[usize; 8], size: usize) -> Spot
+pub(crate) fn nearest(
+    queue: &[i32],
+    at: &[usize; 8],
+    end: &[usize; 8],
+    size: usize,
+) -> Option<Point>
     requires { (size ≤ 8) × (16384 ≡ length queue.now) × Within size at.now end.now }
     ensures { spot_of result ≡ nearest_of size (front_at queue.now at.now end.now) }
 {
-    let mut spot = Spot::Ended;
-    let mut j = 0;
-    while j < size {
+    let mut spot = None;
+    for j in 0..size {
         let f = front(queue, j, at[j], end[j]);
         spot = order::nearer(spot, f);
-        j += 1;
     }
     spot
 }
@@ -201,27 +183,20 @@ fn grown(n: usize) -> usize
     if n < 128 { 4 * n } else { LANE }
 }
 
-fn least(a: usize, b: usize) -> usize
-    requires { (0 < a) × (0 < b) }
-    ensures { (0 < result) × (result ≤ a) }
-{
-    if a < b { a } else { b }
-}
-
 // A hand-out of a region's job.
-fn walk_on(s: Source, from: Spot, out: &mut [i32]) -> Handed
+fn walk_on(s: Source, from: Option<Point>, out: &mut [i32]) -> Handed
     requires { Made s.job s }
     ensures { Gave numbers_in 4 (left_of s.job (spot_of from)) out.old (length out.old / 4) result.count out.new (spot_of result.spot) }
 {
     if s.near {
-        let w = s.walk;
-        return walk::hand_out_of(w, from, out);
+        walk::hand_out_of(s.walk, from, out)
+    } else {
+        walk::hand_out(s.job, from, out)
     }
-    walk::hand_out(s.job, from, out)
 }
 
 // The queue of region number j from a spot on: n of its points, or all if they are fewer.
-fn fill(s: Source, n: usize, j: usize, from: Spot, queue: &mut [i32]) -> Handed
+fn fill(s: Source, n: usize, j: usize, from: Option<Point>, queue: &mut [i32]) -> Handed
     requires { Made s.job s × (0 < n) × (n ≤ 512) × (j < 8) × (16384 ≡ length queue.old) }
     ensures { (content s.job queue.new j 0 result.count (spot_of result.spot) ≡ left_of s.job (spot_of from)) × (result.count ≤ 512) × (0 ≡ result.count → spot_of result.spot ≡ ended) × Elsewhere j queue.old queue.new }
 {
@@ -231,30 +206,22 @@ fn fill(s: Source, n: usize, j: usize, from: Spot, queue: &mut [i32]) -> Handed
 }
 
 // The nearest of the marks.
-pub(crate) fn reach(marks: [Mark; 8], size: usize) -> Spot
+pub(crate) fn reach(marks: [Mark; 8], size: usize) -> Option<Point>
     requires { size ≤ 8 }
     ensures { spot_of result ≡ nearest_of size (mark_at marks) }
 {
-    let mut spot = Spot::Ended;
-    let mut j = 0;
-    while j < size {
-        let m = marks[j];
-        let f = m.spot;
-        spot = order::nearer(spot, f);
-        j += 1;
+    let mut spot = None;
+    for m in &marks[..size] {
+        spot = order::nearer(spot, m.spot);
     }
     spot
 }
 
 // Whether a lane is at its queue's end, and its walk goes on before or at the front.
-fn is_due(i: usize, e: usize, m: Mark, front: Spot) -> bool
+fn is_due(i: usize, e: usize, m: Mark, front: Option<Point>) -> bool
     ensures { (result ≡ true → i ≡ e) × (result ≡ false → i ≡ e → past (spot_of m.spot) (spot_of front) ≡ true) }
 {
-    if i == e {
-        let spot = m.spot;
-        return !order::past(spot, front);
-    }
-    false
+    i == e && !order::past(m.spot, front)
 }
 
 // Lanes that came to the end of their queues go on, if the front has come to their marks: at most so many points of each are queued as there is room for.
@@ -263,7 +230,7 @@ pub(crate) fn refill(
     marks: [Mark; 8],
     size: usize,
     room: usize,
-    front: Spot,
+    front: Option<Point>,
     queue: &mut [i32],
     at: &mut [usize; 8],
     end: &mut [usize; 8],
@@ -272,20 +239,15 @@ pub(crate) fn refill(
     ensures { Refilled (λ i. (source_at sources i).job) size queue.old at.old end.old marks (spot_of front) queue.new at.new end.new result }
 {
     let mut after = marks;
-    let mut j = 0;
-    while j < size {
+    for j in 0..size {
         let e = end[j];
         let m = after[j];
         if is_due(at[j], e, m, front) {
-            let s = sources[j];
-            let from = m.spot;
-            let h = fill(s, least(grown(e), room), j, from, queue);
-            let spot = h.spot;
+            let h = fill(sources[j], grown(e).min(room), j, m.spot, queue);
             at[j] = 0;
             end[j] = h.count;
-            after[j] = Mark { spot: spot };
+            after[j] = Mark { spot: h.spot };
         }
-        j += 1;
     }
     after
 }

@@ -17,17 +17,17 @@ mod order;
 use lanes::Mark;
 use ring::Point;
 use tray_list::Tray;
-use walk::{Handed, Spot};
+use walk::Handed;
 
 // As many of the points that the tray lists from a spot on as the slice has space for, five numbers a point.
-pub fn hand_out(t: Tray, from: Spot, out: &mut [i32]) -> Handed
+pub fn hand_out(t: Tray, from: Option<Point>, out: &mut [i32]) -> Handed
     ensures { Gave (five_of t) 5 (left_at (any_at t) (top span) (spot_of from)) out.old (length out.old / 5) result.count out.new (spot_of result.spot) }
 {
     match from {
-        Spot::At(v) => deal(t, v, out),
-        Spot::Ended => Handed {
+        Some(v) => deal(t, v, out),
+        None => Handed {
             count: 0,
-            spot: Spot::Ended,
+            spot: None,
         },
     }
 }
@@ -53,9 +53,10 @@ fn deal(t: Tray, from: Point, out: &mut [i32]) -> Handed
     let mut f = lanes::nearest(&queue, &at, &end, size);
     let mut far = lanes::reach(after, size);
     let mut k = 0;
+    // A while: how many points were handed out is asked for behind it, also where they end early.
     while k < space {
         match f {
-            Spot::At(v) => {
+            Some(v) => {
                 let n = regions(t.count);
                 let s = lanes::advance(&queue, &mut at, &end, n, v);
                 put_five(out, 5 * k, v, s.mask);
@@ -71,7 +72,7 @@ fn deal(t: Tray, from: Point, out: &mut [i32]) -> Handed
                     far = lanes::reach(after, n);
                 }
             }
-            Spot::Ended => {
+            None => {
                 break;
             }
         }

@@ -7,59 +7,58 @@ ghost use Rattle.tray_merge.specs.Past.{past};
 
 use ring::Point;
 use ring_points::order;
-use walk::Spot;
 
 // The nearer of two spots.
-pub(crate) fn nearer(s: Spot, w: Spot) -> Spot
+pub(crate) fn nearer(s: Option<Point>, w: Option<Point>) -> Option<Point>
     ensures { spot_of result ≡ nearer (spot_of s) (spot_of w) }
 {
     match s {
-        Spot::At(p) => nearer_to(p, w),
-        Spot::Ended => w,
+        Some(p) => nearer_to(p, w),
+        None => w,
     }
 }
 
-fn nearer_to(p: Point, w: Spot) -> Spot
-    ensures { spot_of result ≡ nearer (spot_of (Spot.At p)) (spot_of w) }
+fn nearer_to(p: Point, w: Option<Point>) -> Option<Point>
+    ensures { spot_of result ≡ nearer (spot_of (Some p)) (spot_of w) }
 {
     match w {
-        Spot::At(q) => {
+        Some(q) => {
             if order::before(q, p) {
-                Spot::At(q)
+                Some(q)
             } else {
-                Spot::At(p)
+                Some(p)
             }
         }
-        Spot::Ended => Spot::At(p),
+        None => Some(p),
     }
 }
 
 // Whether a spot is at a point.
-pub(crate) fn is_at(s: Spot, v: Point) -> bool
+pub(crate) fn is_at(s: Option<Point>, v: Point) -> bool
     ensures { result ≡ is_at (spot_of s) (rank_of v) }
 {
     match s {
-        Spot::At(p) => order::is_same(p, v),
-        Spot::Ended => false,
+        Some(p) => order::is_same(p, v),
+        None => false,
     }
 }
 
 // Whether a spot lies past another: behind it, or at the end.
-pub(crate) fn past(s: Spot, f: Spot) -> bool
+pub(crate) fn past(s: Option<Point>, f: Option<Point>) -> bool
     ensures { result ≡ past (spot_of s) (spot_of f) }
 {
     match s {
-        Spot::At(p) => is_before(f, p),
-        Spot::Ended => true,
+        Some(p) => is_before(f, p),
+        None => true,
     }
 }
 
 // Whether a spot comes before a point.
-fn is_before(f: Spot, p: Point) -> bool
-    ensures { result ≡ past (spot_of (Spot.At p)) (spot_of f) }
+fn is_before(f: Option<Point>, p: Point) -> bool
+    ensures { result ≡ past (spot_of (Some p)) (spot_of f) }
 {
     match f {
-        Spot::At(q) => order::before(q, p),
-        Spot::Ended => false,
+        Some(q) => order::before(q, p),
+        None => false,
     }
 }

@@ -1,6 +1,6 @@
 -- What a take comes to: SPEC, "Trays". Refused are, in this order: the scale or the byte out of its range (4); no byte of A (16); then records as they are read, those of A in
 -- turn, 16 where a ninth would begin, B last; 16 where bytes follow B.
-use Rattle.std.specs.Prelude.{◌≡◌, Bool, true, false, cond, ◌&&◌, List, [], ◌∷◌, ℕ, zero, suc, ◌≤◌, ◌<◌, eqb, leb, ltb, length, drop, replicate}
+use Rattle.std.specs.Prelude.{◌≡◌, Bool, true, false, cond, ◌&&◌, List, [], ◌∷◌, ℕ, zero, suc, ◌≤◌, ◌<◌, eqb, leb, ltb, length, drop, replicate, Result, Ok, Err}
 use Rattle.std.proofs.Math.Path.{refl}
 use Rattle.std.proofs.Common.{ap, arith}
 use borrow.Author.Tests.{le-leb, lt-leb}
@@ -20,8 +20,6 @@ use Rattle.tray_list.specs.declared.Tray.{Tray}
 use Rattle.tray_list.specs.Tray.{blank}
 use Rattle.tray_taking.specs.declared.Refusal.{Refusal}
 use Rattle.tray_taking.specs.declared.Refusal.TheVariants as F
-use Rattle.tray_taking.specs.declared.Verdict.{Verdict}
-use Rattle.tray_taking.specs.declared.Verdict.TheVariants as Said
 use Rattle.tray_taking.specs.declared.Found.{Found}
 use Rattle.tray_taking.specs.declared.Found.TheVariants as O
 use Rattle.tray_taking.specs.declared.Records.{Records}
@@ -83,9 +81,9 @@ padded_of (all_read l) = Model.accept (length l) (padded 8 l)
 padded_of (refused n) = Model.refuse n
 
 -- what the code says of them
-abbrev read_by : Verdict → ℕ → List Target → Model.Taking (List Target)
-read_by Said.Taken n ts = Model.accept n ts
-read_by (Said.Refused f) n ts = Model.refuse (number_of f)
+abbrev read_by : Result Unit Refusal → ℕ → List Target → Model.Taking (List Target)
+read_by (Ok tt) n ts = Model.accept n ts
+read_by (Err f) n ts = Model.refuse (number_of f)
 
 abbrev pub read_of : Records → Model.Taking (List Target)
 read_of r = read_by r.verdict r.count r.targets
@@ -118,9 +116,9 @@ takes g =
     (Model.refuse beyond_range)
 
 -- what the code says of it
-abbrev pub take_of : Verdict → Tray → Model.Taking Tray
-take_of Said.Taken t = Model.accept t.count t
-take_of (Said.Refused f) t = Model.refuse (number_of f)
+abbrev pub take_of : Result Unit Refusal → Tray → Model.Taking Tray
+take_of (Ok tt) t = Model.accept t.count t
+take_of (Err f) t = Model.refuse (number_of f)
 
 -- a tray without regions
 abbrev pub no_tray : Tray
@@ -156,8 +154,8 @@ module _ (g : Given) where
 
 -- the records of A are read, or refused
 module _ (k : ℕ) (all : Bool) (r : Records) (l : List ℕ) where
-  pub second-refused : (f : Refusal) → r.verdict ≡ Said.Refused f → second_of k all (read_of r) l ≡ Model.refuse (number_of f)
+  pub second-refused : (f : Refusal) → r.verdict ≡ Err f → second_of k all (read_of r) l ≡ Model.refuse (number_of f)
   second-refused f e = rw e refl
 
-  pub second-last : (f : Found) → r.verdict ≡ Said.Taken → one_of l ≡ f → second_of k all (read_of r) l ≡ last_of k all r.count r.targets l f
+  pub second-last : (f : Found) → r.verdict ≡ (Ok tt) → one_of l ≡ f → second_of k all (read_of r) l ≡ last_of k all r.count r.targets l f
   second-last f e o = rw e (ap (last_of k all r.count r.targets l) o)

@@ -27,16 +27,10 @@ impl Refusal {
     }
 }
 
-#[derive(Clone, Copy)]
-pub enum Verdict {
-    Taken,
-    Refused(Refusal),
-}
-
 // A tray that was taken; where it is refused the tray says nothing.
 #[derive(Clone, Copy)]
 pub struct Answer {
-    pub verdict: Verdict,
+    pub verdict: Result<(), Refusal>,
     pub tray: Tray,
 }
 
@@ -50,7 +44,7 @@ pub enum Found {
 // What the records of A come to.
 #[derive(Clone, Copy)]
 pub struct Records {
-    pub verdict: Verdict,
+    pub verdict: Result<(), Refusal>,
     pub count: usize,
     pub targets: [Target; 8],
 }
@@ -59,13 +53,10 @@ pub struct Records {
 pub fn take(k: u64, byte: u64, a: &[u8], b: &[u8]) -> Answer
     ensures { take_of result.verdict result.tray ≡ takes (record { scale = k; byte = byte; a = a.now; b = b.now }) }
 {
-    if 20 < k {
+    if 20 < k || 1 < byte {
         return refused(Refusal::Record(record::Refusal::OutOfRange));
     }
-    if 1 < byte {
-        return refused(Refusal::Record(record::Refusal::OutOfRange));
-    }
-    if a.len() == 0 {
+    if a.is_empty() {
         return refused(Refusal::Form);
     }
     with_second(k as u8, byte == 1, regions(a), b)
@@ -75,46 +66,41 @@ pub fn take(k: u64, byte: u64, a: &[u8], b: &[u8]) -> Answer
 fn with_second(k: u8, all: bool, r: Records, b: &[u8]) -> Answer
     ensures { take_of result.verdict result.tray ≡ second_of k all (read_of r) b.now }
 {
-    let v = r.verdict;
-    match v {
-        Verdict::Taken => {
-            let f = one(b);
-            match f {
-                Found::Region(g, n) => {
-                    if n < b.len() {
-                        return refused(Refusal::Form);
-                    }
-                    taken(k, all, r, g)
+    match r.verdict {
+        Ok(()) => match one(b) {
+            Found::Region(g, n) => {
+                if n < b.len() {
+                    return refused(Refusal::Form);
                 }
-                Found::Refused(why) => refused(Refusal::Record(why)),
+                taken(k, all, r, g)
             }
-        }
-        Verdict::Refused(f) => refused(f),
+            Found::Refused(why) => refused(Refusal::Record(why)),
+        },
+        Err(f) => refused(f),
     }
 }
 
 fn taken(k: u8, all: bool, r: Records, b: Region) -> Answer
-    ensures { (result.verdict ≡ Verdict.Taken) × (result.tray ≡ record { k = k; all = all; b = b; count = r.count; targets = r.targets }) }
+    ensures { (result.verdict ≡ (Ok tt)) × (result.tray ≡ record { k = k; all = all; b = b; count = r.count; targets = r.targets }) }
 {
-    let count = r.count;
     let targets = r.targets;
     Answer {
-        verdict: Verdict::Taken,
+        verdict: Ok(()),
         tray: Tray {
-            k: k,
-            all: all,
-            b: b,
-            count: count,
-            targets: targets,
+            k,
+            all,
+            b,
+            count: r.count,
+            targets,
         },
     }
 }
 
 fn refused(f: Refusal) -> Answer
-    ensures { result.verdict ≡ Verdict.Refused f }
+    ensures { result.verdict ≡ Err f }
 {
     Answer {
-        verdict: Verdict::Refused(f),
+        verdict: Err(f),
         tray: no_tray(),
     }
 }
@@ -124,11 +110,10 @@ pub fn no_tray() -> Tray
     ensures { result ≡ no_tray }
 {
     let t = blank();
-    let b = t.region;
     Tray {
         k: 0,
         all: false,
-        b: b,
+        b: t.region,
         count: 0,
         targets: [t; 8],
     }
@@ -152,8 +137,7 @@ fn blank() -> Target
 fn one(bytes: &[u8]) -> Found
     ensures { result ≡ one_of bytes.now }
 {
-    let r = record::read(bytes, Turn::First);
-    match r {
+    match record::read(bytes, Turn::First) {
         Reading::Accepted(x, n) => region_of(x, n),
         Reading::Refused(f) => Found::Refused(f),
     }
@@ -164,9 +148,7 @@ fn region_of(x: Record, n: usize) -> Found
 {
     match x {
         Record::Region(g) => Found::Region(g, n),
-        Record::Scale(_) => Found::Refused(record::Refusal::OutOfTurn),
-        Record::Selection(_) => Found::Refused(record::Refusal::OutOfTurn),
-        Record::Operator(_) => Found::Refused(record::Refusal::OutOfTurn),
+        _ => Found::Refused(record::Refusal::OutOfTurn),
     }
 }
 
@@ -177,12 +159,12 @@ fn regions(a: &[u8]) -> Records
     let mut targets = [blank(); 8];
     let mut count = 0;
     let mut at = 0;
+    // A while: a step goes past a whole record.
     while at < a.len() {
         if count == 8 {
             return unread(Refusal::Form);
         }
-        let f = one(&a[at..]);
-        match f {
+        match one(&a[at..]) {
             Found::Region(g, n) => {
                 targets[count] = Target { region: g };
                 count += 1;
@@ -194,17 +176,17 @@ fn regions(a: &[u8]) -> Records
         }
     }
     Records {
-        verdict: Verdict::Taken,
-        count: count,
-        targets: targets,
+        verdict: Ok(()),
+        count,
+        targets,
     }
 }
 
 fn unread(f: Refusal) -> Records
-    ensures { result.verdict ≡ Verdict.Refused f }
+    ensures { result.verdict ≡ Err f }
 {
     Records {
-        verdict: Verdict::Refused(f),
+        verdict: Err(f),
         count: 0,
         targets: [blank(); 8],
     }

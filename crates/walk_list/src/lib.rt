@@ -2,10 +2,3 @@
 #![tactic(auto)]
 
 use ring::Point;
-
-// Where a walk stands: at a point, from which on it goes, or past the end.
-#[derive(Clone, Copy)]
-pub enum Spot {
-    At(Point),
-    Ended,
-}

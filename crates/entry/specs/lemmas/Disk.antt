@@ -1,7 +1,7 @@
 -- "Outside the disk the list is empty" (SPEC, "Other entry"): for every v of any integers, where u = v/√2^k is longer than 1, or its conjugate is.
 use Rattle.std.proofs.Math.Path.{◌≡◌, refl}
 use Rattle.std.proofs.Common.{sym, ap, ap₂, ◌∙◌, true≢false, arith, le-ltb}
-use Rattle.std.specs.Prelude.{Bool, ℕ, ◌/◌, ◌^◌, ◌≤◌, ltb, ℤ, pos, length, take, drop}
+use Rattle.std.specs.Prelude.{Bool, ℕ, ◌/◌, ◌^◌, ◌≤◌, ltb, ℤ, pos, length, take, drop, Option}
 use Rattle.std.proofs.Math.Bool.{true, false}
 use mathlib.Core.List.Memᴰ
 use mathlib.Core.List.{List, [], ◌∷◌}
@@ -10,7 +10,7 @@ use Rattle.integers.specs.lemmas.Ring.{poly, by_ring}
 use Rattle.ring.specs.declared.Point.{Point}
 use Rattle.ring.specs.declared.RootTwo.{RootTwo}
 use Rattle.ring.specs.RootTwo.{◌⊞◌, ◌⊟◌, ◌⊠◌, neg, conj, num, ring√, conj-⊞, conj-⊠, conj_num}
-use Rattle.ring.specs.RootTwo.Order.{Nn, ◌⊑◌, nn_by, nn-+, nn_sq}
+use Rattle.ring.specs.RootTwo.Order.{◌⊑◌, nn_by, nn-+, nn_sq}
 use Rattle.ring.specs.RootTwo.Power.{√2^}
 use Rattle.ring.specs.Point.{conjω, √2x, √2y, √2x_conj, √2y_conj}
 use Rattle.ranks.specs.Rest.{is_nil}
@@ -21,9 +21,8 @@ use Rattle.ring_points.specs.Points.{point_of}
 use Rattle.entry_equation.specs.Equation.{completes, top_scale}
 use Rattle.entry_equation.specs.lemmas.Tests.{is_false}
 use Rattle.entry_equation.specs.Meaning.{twice|◌|², unit-length, √2^-square}
-use Rattle.entry_candidates.specs.declared.Place.{Place}
 use Rattle.entry.specs.declared.Answer.TheVariants.{Handed, Refused}
-use Rattle.entry.specs.Entry.{full, left, start_of, answer_of}
+use Rattle.entry.specs.Entry.{left, start_of, answer_of}
 
 -- 2·2^k, twice the squared length of √2^k
 abbrev pub twice√2^ : ℕ → RootTwo
@@ -69,7 +68,7 @@ module _ (k : ℕ) (v w : Point) (e : completes k v w ≡ true) where
 
 -- ---- where nothing solves nothing is listed, from whichever place on
 module _ (k : ℕ) (v : Point) where
-  pub left-none : ((w : Point) → completes k v w ≡ false) → (p : Place) → left k v p ≡ []
+  pub left-none : ((w : Point) → completes k v w ≡ false) → (p : Option Point) → left k v p ≡ []
   unfolding left
   left-none h p = go (left k v p) refl
     where
@@ -77,19 +76,19 @@ module _ (k : ℕ) (v : Point) where
       go [] e = refl
       go (r ∷ l) e = absurd (true≢false (sym (rest-sound (λ r. completes k v (point_of r)) (top span) (start_of p) r (rw e (Memᴰ.head refl))).2 ∙ h (point_of r)))
 
-  none-by : ((w : Point) → completes k v w ≡ true → ⊥) → (p : Place) → left k v p ≡ []
+  none-by : ((w : Point) → completes k v w ≡ true → ⊥) → (p : Option Point) → left k v p ≡ []
   none-by f = left-none (λ w. is_false _ (f w))
 
   -- |u| above 1
-  pub outside_empty : Longer k v → (p : Place) → left k v p ≡ []
+  pub outside_empty : Longer k v → (p : Option Point) → left k v p ≡ []
   outside_empty h = none-by (λ w e. h (not_longer k v w e))
 
   -- |u•| above 1
-  pub conjugate_outside_empty : Longer k (conjω v) → (p : Place) → left k v p ≡ []
+  pub conjugate_outside_empty : Longer k (conjω v) → (p : Option Point) → left k v p ≡ []
   conjugate_outside_empty h = none-by (λ w e. h (conjugate_not_longer k v w e))
 
   -- the answer to an empty list, at a scale that is not refused: count 0, end yes
-  pub empty_answer : (p : Place) (out : List ℤ) → k ≤ top_scale → left k v p ≡ [] → answer_of k v p out ≡ Handed 0 true
+  pub empty_answer : (p : Option Point) (out : List ℤ) → k ≤ top_scale → left k v p ≡ [] → answer_of k v p out ≡ Handed 0 true
   unfolding answer_of
   empty_answer p out ok e = go (ltb top_scale k) (left k v p) (length out / 4) (le-ltb top_scale k ok) e
     where

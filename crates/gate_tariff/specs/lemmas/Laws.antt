@@ -1,5 +1,5 @@
 -- Ticket 8: rounding up, an empty word, and how large a cost can be.
-use Rattle.std.specs.Prelude.{◌≡◌, refl, Bool, true, false, cond, ◌&&◌, ◌↔◌, ℕ, ◌*◌, ◌≤◌, length}
+use Rattle.std.specs.Prelude.{◌≡◌, refl, Bool, true, false, cond, ◌&&◌, ◌↔◌, ℕ, ◌*◌, ◌≤◌, length, Ok, Err}
 use mathlib.Core.List.{List, [], ◌∷◌}
 use native.Mathlib.Omega.{arith}
 use Rattle.std.proofs.Math.Dec.{leb}
@@ -7,8 +7,6 @@ use Rattle.std.proofs.Common.{leb-true}
 use Rattle.integers.specs.lemmas.Booleans.{both_true}
 use Rattle.gate_alphabet.specs.Letters.{Letter, H, S, T, W, letters_of, are_letters, length-letters}
 use Rattle.gate_tariff.specs.declared.Tariff.{Tariff}
-use Rattle.gate_tariff.specs.declared.Answer.TheVariants as C
-use Rattle.gate_tariff.specs.declared.price.Ticks.TheVariants.{Sum, Refused}
 use Rattle.gate_tariff.specs.declared.Refusal.TheVariants.{OutOfRange, NotALetter}
 use Rattle.gate_tariff.specs.Tariff.{top_price, top_length, price, in_range, sum_of, rounded, ticks_of, cost_of}
 
@@ -17,7 +15,7 @@ pub rounded-least : (n k : ℕ) → (rounded n ≤ k) ↔ (n ≤ 1000 * k)
 rounded-least n k = ((λ h. omega arith), (λ h. omega arith))
 
 -- ---- an empty word costs 0
-pub cost_empty : (p : Tariff) (m : ℕ) → in_range p ≡ true → cost_of p [] m ≡ C.Costs 0 (leb 0 m)
+pub cost_empty : (p : Tariff) (m : ℕ) → in_range p ≡ true → cost_of p [] m ≡ Ok (0, (leb 0 m))
 unfolding cost_of ticks_of sum_of are_letters letters_of
 cost_empty p m e = rw e refl
 
@@ -45,11 +43,11 @@ module _ (p : Tariff) (e : in_range p ≡ true) where
   pub letters-small : (s : List ℕ) → length s ≤ top_length → sum_of p (letters_of s) ≤ 65536000000
   letters-small s h = omega (arith, sum-small (letters_of s), length-letters s)
 
-pub ticks_small : (p : Tariff) (w : List ℕ) (n : ℕ) → ticks_of p w ≡ Sum n → n ≤ 65536000
+pub ticks_small : (p : Tariff) (w : List ℕ) (n : ℕ) → ticks_of p w ≡ Ok n → n ≤ 65536000
 unfolding ticks_of
 ticks_small p w n e = go (in_range p && leb (length w) top_length) (are_letters w) refl e
   where
-    go : (a b : Bool) → in_range p && leb (length w) top_length ≡ a → cond a (cond b (Sum (rounded (sum_of p (letters_of w)))) (Refused NotALetter)) (Refused OutOfRange) ≡ Sum n → n ≤ 65536000
+    go : (a b : Bool) → in_range p && leb (length w) top_length ≡ a → cond a (cond b (Ok (rounded (sum_of p (letters_of w)))) (Err NotALetter)) (Err OutOfRange) ≡ Ok n → n ≤ 65536000
     go true true i e =
         let k : n ≡ rounded (sum_of p (letters_of w)) = cc in
         let (r, l) = both_true (in_range p) (leb (length w) top_length) i in

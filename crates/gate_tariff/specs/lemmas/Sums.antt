@@ -1,15 +1,12 @@
 -- What a desk asks next: of Ticket 8 the letters in another order, and two words one after the other; of Ticket 13 the sum of the single answers.
-use Rattle.std.specs.Prelude.{◌≡◌, Bool, true, false, ◌&&◌, ℕ, suc, ◌+◌, ◌≤◌, length}
+use Rattle.gate_tariff.specs.declared.Refusal.{Refusal}
+use Rattle.std.specs.Prelude.{◌≡◌, Bool, true, false, ◌&&◌, ℕ, suc, ◌+◌, ◌≤◌, length, Result, Ok, Err}
 use Rattle.std.proofs.Math.Path.{refl, ap₂}
 use Rattle.std.proofs.Common.{ap, ◌∙◌}
 use mathlib.Core.List.{List, [], ◌∷◌, ◌++◌, Permᴰ}
 use native.Mathlib.Omega.{arith}
 use Rattle.gate_alphabet.specs.Letters.{letter_of, letters_of, is_letter, are_letters}
 use Rattle.gate_tariff.specs.declared.Tariff.{Tariff}
-use Rattle.gate_tariff.specs.declared.Answer.{Answer}
-use Rattle.gate_tariff.specs.declared.Answer.TheVariants as C
-use Rattle.gate_tariff.specs.declared.price.Ticks.{Ticks}
-use Rattle.gate_tariff.specs.declared.price.Ticks.TheVariants.{Sum, Refused}
 use Rattle.gate_tariff.specs.Tariff.{price, sum_of, ticks_of, answered, cost_of}
 use Rattle.gate_tariff.specs.Tray.{words_of, is_tray, plus, total_of, tray_of}
 use Rattle.gate_tariff.specs.lemmas.Trays.{ticks_are}
@@ -62,7 +59,7 @@ module _ (p : Tariff) where
   sum-++ (x ∷ v) w = omega (arith, sum-++ v w)
 
   -- at most the sum of the two costs, and at least that less one tick
-  pub cost-++ : (v w : List ℕ) (a b c : ℕ) → ticks_of p v ≡ Sum a → ticks_of p w ≡ Sum b → ticks_of p (v ++ w) ≡ Sum c → (c ≤ a + b) × (a + b ≤ c + 1)
+  pub cost-++ : (v w : List ℕ) (a b c : ℕ) → ticks_of p v ≡ Ok a → ticks_of p w ≡ Ok b → ticks_of p (v ++ w) ≡ Ok c → (c ≤ a + b) × (a + b ≤ c + 1)
   cost-++ v w a b c e f g =
       let h = sum-++ v w in
       let i = ticks_are p v a e in
@@ -71,17 +68,17 @@ module _ (p : Tariff) where
       (omega arith, omega arith)
 
   -- ---- a tray's answer is the comparison of the sum of what the single question answers for each word
-  abbrev pub ticks_in : Answer → Ticks
-  ticks_in (C.Costs n fits) = Sum n
-  ticks_in (C.Refused why) = Refused why
+  abbrev pub ticks_in : Result (ℕ × Bool) Refusal → Result ℕ Refusal
+  ticks_in (Ok (n, fits)) = Ok n
+  ticks_in (Err why) = Err why
 
-  ticks-in : (m : ℕ) (x : Ticks) → ticks_in (answered m x) ≡ x
-  ticks-in m (Sum n) = refl
-  ticks-in m (Refused why) = refl
+  ticks-in : (m : ℕ) (x : Result ℕ Refusal) → ticks_in (answered m x) ≡ x
+  ticks-in m (Ok n) = refl
+  ticks-in m (Err why) = refl
 
   -- the words asked one by one, each of a memory
-  unfoldable pub asked_each : ℕ → List (List ℕ) → Ticks
-  asked_each m [] = Sum 0
+  unfoldable pub asked_each : ℕ → List (List ℕ) → Result ℕ Refusal
+  asked_each m [] = Ok 0
   asked_each m (w ∷ ws) = plus (ticks_in (cost_of p w m)) (asked_each m ws)
 
   each-total : (m : ℕ) (ws : List (List ℕ)) → asked_each m ws ≡ total_of p ws

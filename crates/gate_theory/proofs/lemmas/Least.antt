@@ -1,9 +1,7 @@
 -- The reduction to the least exponent, of t and of ω t.
-use Rattle.std.specs.Prelude.{◌≡◌, refl, Bool, true, false, not, ℕ, zero, suc, ◌-◌, ◌≤◌}
+use Rattle.std.specs.Prelude.{◌≡◌, refl, Bool, true, false, not, ℕ, zero, suc, ◌-◌, ◌≤◌, Option, Some, None}
 use Rattle.std.proofs.Common.{sym, ◌∙◌, ap, subst, arith}
 use Rattle.ring.specs.declared.Point.{Point}
-use Rattle.ring.specs.declared.Quotient.{Quotient}
-use Rattle.ring.specs.declared.Quotient.TheVariants.{Whole, NotInRing}
 use Rattle.ring.specs.Point.{◌*ω◌, √2ω}
 use Rattle.ring.specs.Point.Divide.{divide_root2, halves, divide_whole, divide_not, times-injective}
 use Rattle.ring.specs.Point.Exponent.{exponent_of, exponent_zero, exponent_whole, exponent_not}
@@ -23,7 +21,7 @@ pub record Least (e : ℕ) (s : State) : Type 0 where
   pub phase : s.l ≡ 0
   pub whole : 1 ≤ s.k → not (rest (parities s.u)) ≡ true
 
-not_whole : (v : Point) → divide_root2 v ≡ NotInRing → not (rest (parities v)) ≡ true
+not_whole : (v : Point) → divide_root2 v ≡ None → not (rest (parities v)) ≡ true
 not_whole v e = go (rest (parities v)) refl
   where
     go : (b : Bool) → rest (parities v) ≡ b → not b ≡ true
@@ -45,12 +43,12 @@ unfolding reduced
 reduced-least zero u t e = record { exponent = sym (exponent_zero u); equation = e; phase = refl; whole = λ h. absurd (omega arith) }
 reduced-least (suc k) u t e = go (divide_root2 u) refl (λ x y f. reduced-least k x y f)
   where
-    go : (q : Quotient) → divide_root2 u ≡ q → ((x y : Point) → Equation k x y → Least (exponent_of k x) (reduced k x y)) → Least (exponent_of (suc k) u) (over (record { k = suc k; u = u; t = t; l = 0 }) (λ x. reduced k x (halves t)) q)
-    go (Whole x) d ih =
+    go : (q : Option Point) → divide_root2 u ≡ q → ((x y : Point) → Equation k x y → Least (exponent_of k x) (reduced k x y)) → Least (exponent_of (suc k) u) (over (record { k = suc k; u = u; t = t; l = 0 }) (λ x. reduced k x (halves t)) q)
+    go (Some x) d ih =
         let p = divide_whole u x d in
         let j : suc k - 1 ≡ k = omega arith in
         subst (λ n. Least n (reduced k x (halves t))) (ap (λ n. exponent_of n x) (sym j) ∙ exponent_whole (suc k) u x (omega arith) d) (ih x (halves t) (equation_over k u t x (halves t) p (t-over k u t x e p) e))
-    go NotInRing d ih = record { exponent = exponent_not (suc k) u (omega arith) d; equation = e; phase = refl; whole = λ h. not_whole u d }
+    go None d ih = record { exponent = exponent_not (suc k) u (omega arith) d; equation = e; phase = refl; whole = λ h. not_whole u d }
 
 -- ---- of ω t: the same, with t turned
 pub equation_turn : (k : ℕ) (u t : Point) → Equation k u t → Equation k u (turn t)
@@ -64,12 +62,12 @@ unfolding reduced
 reduced-turn zero u t e = refl
 reduced-turn (suc k) u t e = go (divide_root2 u) refl (λ x y f. reduced-turn k x y f)
   where
-    go : (q : Quotient) → divide_root2 u ≡ q → ((x y : Point) → Equation k x y → reduced k x (turn y) ≡ turned_state (reduced k x y))
+    go : (q : Option Point) → divide_root2 u ≡ q → ((x y : Point) → Equation k x y → reduced k x (turn y) ≡ turned_state (reduced k x y))
         → over (record { k = suc k; u = u; t = turn t; l = 0 }) (λ x. reduced k x (halves (turn t))) q ≡ turned_state (over (record { k = suc k; u = u; t = t; l = 0 }) (λ x. reduced k x (halves t)) q)
-    go (Whole x) d ih =
+    go (Some x) d ih =
         let p = divide_whole u x d in
         let y = t-over k u t x e p in
         let z = t-over k u (turn t) x (equation_turn (suc k) u t e) p in
         let h : halves (turn t) ≡ turn (halves t) = times-injective _ _ (z ∙ sym (ap turn y) ∙ turn-√2 (halves t)) in
         ap (reduced k x) h ∙ ih x (halves t) (equation_over k u t x (halves t) p y e)
-    go NotInRing d ih = refl
+    go None d ih = refl

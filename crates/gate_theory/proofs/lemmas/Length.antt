@@ -1,11 +1,9 @@
 -- Sizes for the code: up to the top scale a word has at most 128 letters, and coordinates are narrow.
-use Rattle.std.specs.Prelude.{◌≡◌, refl, Bool, true, false, List, [], ◌∷◌, ◌++◌, ℕ, zero, suc, ◌+◌, ◌-◌, ◌*◌, ◌/◌, ◌%◌, ◌^◌, ◌≤◌, ◌<◌, ◌+ℤ◌, length, get_or}
+use Rattle.std.specs.Prelude.{◌≡◌, refl, Bool, true, false, List, [], ◌∷◌, ◌++◌, ℕ, zero, suc, ◌+◌, ◌-◌, ◌*◌, ◌/◌, ◌%◌, ◌^◌, ◌≤◌, ◌<◌, ◌+ℤ◌, length, get_or, Option, Some, None}
 use Rattle.std.proofs.Common.{sym, ◌∙◌, ap, ap₂, mul-le-mul, pow-suc, arith}
 use Rattle.std.proofs.Math.Decide.{dec_lt}
 use Rattle.record_ranges.specs.Ranges.{top_scale}
 use Rattle.ring.specs.declared.Point.{Point}
-use Rattle.ring.specs.declared.Quotient.{Quotient}
-use Rattle.ring.specs.declared.Quotient.TheVariants.{Whole, NotInRing}
 use Rattle.ring.specs.Point.Divide.{divide_root2, halves}
 use Rattle.gate_theory.specs.State.{State, Equation, is_bare, next, Stage, last, odds, sides, Narrow}
 use Rattle.gate_theory.specs.Table.{Letter, letter, unpack, tails, index, tail}
@@ -39,9 +37,9 @@ unfolding reduced
 reduced-k zero u t = omega arith
 reduced-k (suc k) u t = go (divide_root2 u) (λ x y. reduced-k k x y)
   where
-    go : (q : Quotient) → ((x y : Point) → (reduced k x y).k ≤ k) → (over (record { k = suc k; u = u; t = t; l = 0 }) (λ x. reduced k x (halves t)) q).k ≤ suc k
-    go (Whole x) ih = omega (arith, ih x (halves t))
-    go NotInRing ih = omega arith
+    go : (q : Option Point) → ((x y : Point) → (reduced k x y).k ≤ k) → (over (record { k = suc k; u = u; t = t; l = 0 }) (λ x. reduced k x (halves t)) q).k ≤ suc k
+    go (Some x) ih = omega (arith, ih x (halves t))
+    go None ih = omega arith
 
 spelled-length : (e : ℕ) (s : State) → Least e s → s.k ≤ top_scale → length (spelled s) ≤ 128
 spelled-length e s h k = go (bare_at_zero s) refl

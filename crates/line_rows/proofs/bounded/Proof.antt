@@ -13,8 +13,8 @@ below-requires c κs = search rules
 returns : tie.Need-returns-then-above
 returns c = c.below.ensures ∙ sym (both-when (sym c.above.ensures ∙ c.if-above.true))
 
-returns-2 : tie.Need-returns
-returns-2 c = sym (both-unless _ _ (sym c.above.ensures ∙ c.if-above.false))
+returns-2 : tie.Need-returns-else-above
+returns-2 c = c.if-above.false ∙ sym (both-unless _ _ (sym c.above.ensures ∙ c.if-above.false))
 
 pub bounded_spec : {M : Type 1} → statement M
 bounded_spec = tie.close (tie.spec above-requires below-requires returns returns-2)

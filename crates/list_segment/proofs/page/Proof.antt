@@ -153,20 +153,20 @@ enum-known-s c = search rules
 enum_told : tie.Need-enum_told-1
 enum_told c = search rules
 
-last-requires-2 : tie.Need-last-requires-in-Ended
+last-requires-2 : tie.Need-last-requires-in-None
 last-requires-2 c κs = search rules
 
-same-length-2 : tie.Need-shape_of-out-in-At
+same-length-2 : tie.Need-shape_of-out-in-Some
 same-length-2 c = search rules
 
-returns-2 : tie.Need-returns-in-At
-returns-2 c = let p = c.before.before.before.before.before.before.before in goes c.before.before.before.before.before _ _ (ap spot_of c.in-At.is) (search rules) refl refl refl
+returns-2 : tie.Need-returns-in-Some
+returns-2 c = let p = c.before.before.before.before.before.before.before in goes c.before.before.before.before.before _ _ (ap spot_of c.in-Some.is) (search rules) refl refl refl
 
-same-length-3 : tie.Need-shape_of-out-in-Ended
+same-length-3 : tie.Need-shape_of-out-in-None
 same-length-3 c = search rules
 
-returns-3 : tie.Need-returns-in-Ended
-returns-3 c = let p = c.before.before.before.before.before.before.before in ends c.before.before.before.before.before.before c.last-in-Ended.result c.last-in-Ended.ensures (lasts c.before.before.before.before.before.before (search rules) (ap spot_of c.in-Ended.is))
+returns-3 : tie.Need-returns-in-None
+returns-3 c = let p = c.before.before.before.before.before.before.before in ends c.before.before.before.before.before.before c.last-in-None.result c.last-in-None.ensures (lasts c.before.before.before.before.before.before (search rules) (ap spot_of c.in-None.is))
 
 pub page_spec : {M : Type 1} → statement M
 page_spec =

@@ -1,5 +1,6 @@
 -- The inverse of an accepted operator undoes it, on both sides and at every point; it is even, and its numbers lie within ±200.
-use Rattle.std.specs.Prelude.{◌≡◌, refl, true, [], ◌∷◌, ℤ, pos, neg_ℤ, ◌+ℤ◌, ◌-ℤ◌, ◌*ℤ◌}
+use Rattle.operator.specs.declared.Refusal.{Refusal}
+use Rattle.std.specs.Prelude.{◌≡◌, refl, true, [], ◌∷◌, ℤ, pos, neg_ℤ, ◌+ℤ◌, ◌-ℤ◌, ◌*ℤ◌, Result, Ok, Err}
 use Rattle.std.proofs.Common.{◌∙◌, ap, subst, arith}
 use Prim.Native.Nat.{ℕ, zero}
 use Rattle.integers.specs.Difference.{by⊖, zz}
@@ -7,9 +8,7 @@ use Rattle.integers.specs.lemmas.RingZ.{by_ring, by_ring_from, polyZ}
 use Rattle.ring.specs.declared.Point.{Point}
 use Rattle.ring.specs.Point.{ext}
 use Rattle.operator.specs.declared.Operator.{Operator}
-use Rattle.operator.specs.declared.Check.{Check}
-use Rattle.operator.specs.declared.Check.TheVariants.{Special, OutOfRange, OddParity, NotSpecial}
-use Rattle.operator.specs.declared.Inverse.TheVariants.{Operator as Undo}
+use Rattle.operator.specs.declared.Refusal.TheVariants.{OutOfRange, OddParity, NotSpecial}
 use Rattle.operator.specs.Operator.{all_within, even_parity, det_whole, det_root, check_of, image_of}
 use Rattle.operator.specs.Operator as O
 use Rattle.operator.specs.Inverse.{adjugate, times, answer, inverse_of}
@@ -90,34 +89,32 @@ adjugate-even : (k : ℤ) (g : Operator) → even_parity g ≡ true → even_par
 adjugate-even k = by_grid _ λ n. ap even_parity (undo-is k n) ∙ grid-even (undo k n)
 
 -- ---- the inverse
-pub inverse_special : (g : Operator) → check_of g ≡ Special → inverse_of g ≡ Undo (times (det_whole g) (adjugate g))
+pub inverse_special : (g : Operator) → check_of g ≡ (Ok tt) → inverse_of g ≡ Ok (times (det_whole g) (adjugate g))
 unfolding inverse_of
 inverse_special g e = rw e refl
 
-pub inverse_is : (g h : Operator) → inverse_of g ≡ Undo h → (check_of g ≡ Special) × (times (det_whole g) (adjugate g) ≡ h)
+pub inverse_is : (g h : Operator) → inverse_of g ≡ Ok h → (check_of g ≡ (Ok tt)) × (times (det_whole g) (adjugate g) ≡ h)
 unfolding inverse_of
 inverse_is g h e = go (check_of g) refl e
   where
-    go : (t : Check) → check_of g ≡ t → answer t (times (det_whole g) (adjugate g)) ≡ Undo h → (check_of g ≡ Special) × (times (det_whole g) (adjugate g) ≡ h)
-    go Special c e = (c, cc)
-    go OutOfRange c e = let z : ◌≡◌ {A = ℕ} 0 1 = cc in absurd (omega arith)
-    go OddParity c e = let z : ◌≡◌ {A = ℕ} 0 1 = cc in absurd (omega arith)
-    go NotSpecial c e = let z : ◌≡◌ {A = ℕ} 0 1 = cc in absurd (omega arith)
+    go : (t : Result Unit Refusal) → check_of g ≡ t → answer t (times (det_whole g) (adjugate g)) ≡ Ok h → (check_of g ≡ (Ok tt)) × (times (det_whole g) (adjugate g) ≡ h)
+    go (Ok tt) c e = (c, cc)
+    go (Err why) c e = let z : ◌≡◌ {A = ℕ} 0 1 = cc in absurd (omega arith)
 
 -- SPEC, "Operators": it undoes the operator on every point
-pub undoes : (g h : Operator) → inverse_of g ≡ Undo h → (v : Point) → (image_of h (image_of g v) ≡ v) × (image_of g (image_of h v) ≡ v)
+pub undoes : (g h : Operator) → inverse_of g ≡ Ok h → (v : Point) → (image_of h (image_of g v) ≡ v) × (image_of g (image_of h v) ≡ v)
 undoes g h e v =
     let i = inverse_is g h e in
     let p = accepted g i.0 in
     subst (λ h. (image_of h (image_of g v) ≡ v) × (image_of g (image_of h v) ≡ v)) i.1 (adjugate-undoes (det_whole g) g p.even p.unit p.zero v)
 
-pub inverse_even : (g h : Operator) → inverse_of g ≡ Undo h → even_parity h ≡ true
+pub inverse_even : (g h : Operator) → inverse_of g ≡ Ok h → even_parity h ≡ true
 inverse_even g h e =
     let i = inverse_is g h e in
     subst (λ h. even_parity h ≡ true) i.1 (adjugate-even (det_whole g) g (accepted g i.0).even)
 
 -- SPEC, "Operators": its numbers lie within ±200
-pub inverse_within : (g h : Operator) → inverse_of g ≡ Undo h → all_within (pos 200) h ≡ true
+pub inverse_within : (g h : Operator) → inverse_of g ≡ Ok h → all_within (pos 200) h ≡ true
 inverse_within g h e =
     let i = inverse_is g h e in
     let p = accepted g i.0 in

@@ -1,5 +1,5 @@
 -- Reading what was written: the desk sees the fields again.
-use Rattle.std.specs.Prelude.{◌≡◌, Bool, true, false, cond, leb, ℤ, pos, negsuc, nat_abs, drop}
+use Rattle.std.specs.Prelude.{◌≡◌, Bool, true, false, cond, leb, ℤ, pos, negsuc, nat_abs, drop, Ok, Err}
 use Rattle.std.proofs.Math.Path.{refl, ap₂}
 use Rattle.std.proofs.Common.{sym, ap, ◌∙◌, arith, leb-true, le-leb}
 use mathlib.Core.List.{List, [], ◌∷◌, ◌++◌, append_assoc}
@@ -17,7 +17,6 @@ use Rattle.text.specs.Written.{written}
 use Rattle.pattern_sheet.specs.declared.Sheet.{Sheet}
 use Rattle.pattern_sheet.specs.declared.Refusal.TheVariants.{OutOfRange, NotUnitary, NoRoom}
 use Rattle.pattern_sheet.specs.declared.Reading.TheVariants.{Desk}
-use Rattle.pattern_sheet.specs.declared.Writing.TheVariants.{Wrote, Refused}
 use Rattle.pattern_sheet.specs.Sheet.{point_ranked, k_at, u_at, t_at, ticks_at, sheet_at, reading_of}
 use Rattle.pattern_sheet.specs.Crew.{IsSheet, desk_sees}
 use Rattle.pattern_sheet.specs.Write.{number_bytes, point_bytes, bytes_of, length-number, length-point, length-sheet, writing_of, slice_after, Writes}
@@ -94,18 +93,18 @@ pub record Good (s : Sheet) (n : ℕ) : Type 0 where
   pub solved : completes s.k s.u s.t ≡ true
   pub room : 38 ≤ n
 
-pub wrote-good : (s : Sheet) (n m : ℕ) → writing_of s n ≡ Wrote m → Good s n
+pub wrote-good : (s : Sheet) (n m : ℕ) → writing_of s n ≡ Ok m → Good s n
 unfolding writing_of
 wrote-good s n m e = go (leb s.k top_scale) (completes s.k s.u s.t) (leb 38 n) refl refl refl e
   where
     go : (a b c : Bool) → leb s.k top_scale ≡ a → completes s.k s.u s.t ≡ b → leb 38 n ≡ c
-        → cond a (cond b (cond c (Wrote 38) (Refused NoRoom)) (Refused NotUnitary)) (Refused OutOfRange) ≡ Wrote m → Good s n
+        → cond a (cond b (cond c (Ok 38) (Err NoRoom)) (Err NotUnitary)) (Err OutOfRange) ≡ Ok m → Good s n
     go true true true f g h e = record { scale = leb-true s.k top_scale f; solved = g; room = leb-true 38 n h }
     go false b c f g h e = absurd (let z : ◌≡◌ {A = ℕ} 0 1 = cc in omega arith)
     go true false c f g h e = absurd (let z : ◌≡◌ {A = ℕ} 0 1 = cc in omega arith)
     go true true false f g h e = absurd (let z : ◌≡◌ {A = ℕ} 0 1 = cc in omega arith)
 
-pub write_read : (s : Sheet) (b b' : List ℕ) (n : ℕ) → s.ticks < 2 ^ 32 → Writes s b b' (Wrote n) → reading_of 1 b' ≡ Desk s 38
+pub write_read : (s : Sheet) (b b' : List ℕ) (n : ℕ) → s.ticks < 2 ^ 32 → Writes s b b' (Ok n) → reading_of 1 b' ≡ Desk s 38
 unfolding slice_after written
 write_read s b b' n word w =
     let g = wrote-good s (length b) n (sym w.answers) in

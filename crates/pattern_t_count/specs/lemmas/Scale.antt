@@ -1,21 +1,19 @@
 -- The scale of a session's job passed its test, after every list of calls: SPEC, "Records".
-use Rattle.std.specs.Prelude.{◌≡◌, refl, Bool, true, false, cond, List, [], ◌∷◌, ℕ, ◌≤◌, leb, ltb, eqb, length}
+use Rattle.std.specs.Prelude.{◌≡◌, refl, Bool, true, false, cond, List, [], ◌∷◌, ℕ, ◌≤◌, leb, ltb, eqb, length, Result, Ok, Err}
 use Rattle.std.proofs.Common.{ap, subst, ◌∙◌, arith, leb-true}
 use Rattle.region.specs.declared.Region.{Region}
 use Rattle.region.specs.declared.Job.{Job}
-use Rattle.region.specs.declared.Check as RegionCheck
-use Rattle.region.specs.declared.Check.TheVariants as C
+use Rattle.region.specs.declared.Refusal as RegionCheck
+use Rattle.region.specs.declared.Refusal.TheVariants as C
 use Rattle.region.specs.Region.{top_scale, check_of}
 use Rattle.operator.specs.declared.Operator.{Operator}
-use Rattle.operator.specs.declared.Check as OperatorCheck
-use Rattle.operator.specs.declared.Check.TheVariants as O
+use Rattle.operator.specs.declared.Refusal as OperatorCheck
+use Rattle.operator.specs.declared.Refusal.TheVariants as O
 use Rattle.operator.specs.Operator as Op
 use Rattle.record_kinds.specs.declared.Kind.{Kind}
 use Rattle.record_kinds.specs.declared.Kind.TheVariants as K
 use Rattle.record_kinds.specs.declared.Turn.{Turn}
 use Rattle.record_kinds.specs.declared.Turn.TheVariants as T
-use Rattle.record_kinds.specs.declared.Admission.{Admission}
-use Rattle.record_kinds.specs.declared.Admission.TheVariants as A
 use Rattle.record_kinds.specs.declared.Refusal.{Refusal}
 use Rattle.record_kinds.specs.declared.Refusal.TheVariants.{OutOfRange}
 use Rattle.record_kinds.specs.Kinds.{kind_of, in_turn, is_known, admission_of, body_length}
@@ -44,17 +42,17 @@ apart x k f e = let q : x ≡ R.Scale k = cc in f q
 never : {n k : ℕ} (f : Refusal) → RV.Refused f ≡ RV.Accepted (R.Scale k) n → ⊥
 never f e = let z : ◌≡◌ {A = ℕ} 0 1 = cc in omega arith
 
-of_region : (c : RegionCheck.Check) (r : Region) (m k n : ℕ) → region_reading c r m ≡ RV.Accepted (R.Scale k) n → ⊥
-of_region C.Accepted r m k n e = apart (R.Region r) k (λ q. let z : ◌≡◌ {A = ℕ} 0 1 = cc in omega arith) e
-of_region C.OutOfRange r m k n e = never _ e
-of_region C.NotPositive r m k n e = never _ e
-of_region C.NoDirection r m k n e = never _ e
+of_region : (c : Result Unit RegionCheck.Refusal) (r : Region) (m k n : ℕ) → region_reading c r m ≡ RV.Accepted (R.Scale k) n → ⊥
+of_region (Ok tt) r m k n e = apart (R.Region r) k (λ q. let z : ◌≡◌ {A = ℕ} 0 1 = cc in omega arith) e
+of_region (Err C.OutOfRange) r m k n e = never _ e
+of_region (Err C.NotPositive) r m k n e = never _ e
+of_region (Err C.NoDirection) r m k n e = never _ e
 
-of_operator : (c : OperatorCheck.Check) (g : Operator) (m k n : ℕ) → operator_reading c g m ≡ RV.Accepted (R.Scale k) n → ⊥
-of_operator O.Special g m k n e = apart (R.Operator g) k (λ q. let z : ◌≡◌ {A = ℕ} 0 1 = cc in omega arith) e
-of_operator O.OutOfRange g m k n e = never _ e
-of_operator O.OddParity g m k n e = never _ e
-of_operator O.NotSpecial g m k n e = never _ e
+of_operator : (c : Result Unit OperatorCheck.Refusal) (g : Operator) (m k n : ℕ) → operator_reading c g m ≡ RV.Accepted (R.Scale k) n → ⊥
+of_operator (Ok tt) g m k n e = apart (R.Operator g) k (λ q. let z : ◌≡◌ {A = ℕ} 0 1 = cc in omega arith) e
+of_operator (Err O.OutOfRange) g m k n e = never _ e
+of_operator (Err O.OddParity) g m k n e = never _ e
+of_operator (Err O.NotSpecial) g m k n e = never _ e
 
 of_selection : (x y : Bool) (k n : ℕ) → cond x (RV.Accepted (R.Selection false) 2) (cond y (RV.Accepted (R.Selection true) 2) (RV.Refused OutOfRange)) ≡ RV.Accepted (R.Scale k) n → ⊥
 of_selection true y k n e = apart (R.Selection false) k (λ q. let z : ◌≡◌ {A = ℕ} 0 1 = cc in omega arith) e
@@ -75,9 +73,9 @@ of_body K.Operator s k n e = absurd (of_operator (Op.check_of _) _ 17 k n e)
 of_body K.Selection s k n e = absurd (of_selection (eqb (unsigned_at 1 s 0) 0) (eqb (unsigned_at 1 s 0) 1) k n e)
 of_body K.Unknown s k n e = absurd (never _ e)
 
-of_kind : (x : Kind) (s : List ℕ) (k n : ℕ) (a : Admission) → admitted a (body_of x s) ≡ RV.Accepted (R.Scale k) n → k ≤ top_scale
-of_kind x s k n (A.Refused f) e = absurd (never f e)
-of_kind x s k n A.Whole e = of_body x s k n e
+of_kind : (x : Kind) (s : List ℕ) (k n : ℕ) (a : Result Unit Refusal) → admitted a (body_of x s) ≡ RV.Accepted (R.Scale k) n → k ≤ top_scale
+of_kind x s k n (Err f) e = absurd (never f e)
+of_kind x s k n (Ok tt) e = of_body x s k n e
 
 scale-accepted : (b : List ℕ) (t : Turn) (k n : ℕ) → reading_of b t ≡ RV.Accepted (R.Scale k) n → k ≤ top_scale
 unfolding reading_of

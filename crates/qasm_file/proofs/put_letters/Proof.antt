@@ -20,15 +20,15 @@ enum-known-a : tie.Need-enum_known-a
 enum-known-a c = search rules
 
 array-share-prefix-lines : tie.Need-slice_bounds-lines-end
-array-share-prefix-lines c = let w = c in let h = (write_wrote c.args.word.now _ _ _ _ c.write-a.ensures c.in-Wrote.is).2 in omega arith
+array-share-prefix-lines c = let w = c in let h = (write_wrote c.args.word.now _ _ _ _ c.write-a.ensures c.in-Ok.is).2 in omega arith
 
 slice-aggregate-put-lines : tie.Need-slice_bounds-put_lines-end
-slice-aggregate-put-lines c = let w = c in let h = (write_wrote c.args.word.now _ _ _ _ c.write-a.ensures c.in-Wrote.is).2 in sym (length-take-le _ _ (omega arith))
+slice-aggregate-put-lines c = let w = c in let h = (write_wrote c.args.word.now _ _ _ _ c.write-a.ensures c.in-Ok.is).2 in sym (length-take-le _ _ (omega arith))
 
 put-lines-requires : tie.Need-put_lines-requires
-put-lines-requires c κs = take-most c.in-Wrote.n 524288 c.write-a.new.text (omega arith)
+put-lines-requires c κs = take-most c.in-Ok.n 524288 c.write-a.new.text (omega arith)
 
-enum-known-a-2 : tie.Need-enum_known-a-in-Refused-1
+enum-known-a-2 : tie.Need-enum_known-a-in-Err-1
 enum-known-a-2 c = search rules
 
 number-requires : tie.Need-number-requires
@@ -37,22 +37,22 @@ number-requires c κs = search rules
 put-refusal-requires : tie.Need-put_refusal-requires
 put-refusal-requires c κs = search rules
 
-same_length : tie.Need-shape_of-out-in-Wrote
+same_length : tie.Need-shape_of-out-in-Ok
 same_length c = search rules
 
-returns : tie.Need-returns-in-Wrote
+returns : tie.Need-returns-in-Ok
 returns c =
-    let h = write_wrote c.args.word.now _ _ _ _ c.write-a.ensures c.in-Wrote.is in
+    let h = write_wrote c.args.word.now _ _ _ _ c.write-a.ensures c.in-Ok.is in
     rw h.0 (rw h.1 at c.put_lines.ensures)
 
-same-length-2 : tie.Need-shape_of-out-in-Refused
+same-length-2 : tie.Need-shape_of-out-in-Err
 same-length-2 c = search rules
 
-returns-2 : tie.Need-returns-in-Refused
+returns-2 : tie.Need-returns-in-Err
 returns-2 c =
     let s = c in
     let w = c in
-    let h = write_refused c.args.word.now c.in-Refused.f c.requires _ (let e = c.lines_buffer-lines.ensures in omega arith) (sym c.in-Refused.is ∙ c.write-a.ensures.answers) in
+    let h = write_refused c.args.word.now c.in-Err.f c.requires _ (let e = c.lines_buffer-lines.ensures in omega arith) (sym c.in-Err.is ∙ c.write-a.ensures.answers) in
     rw h.0 (weaken 524335 (omega arith) (rw (c.number.ensures ∙ h.1) at c.put_refusal.ensures))
 
 pub put_letters_spec : {M : Type 1} → statement M

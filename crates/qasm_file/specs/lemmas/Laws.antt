@@ -1,5 +1,5 @@
 -- What the code meets: with room for all, a word is refused for its letters alone, and lines for themselves; and the places of an input. Assumes nothing.
-use Rattle.std.specs.Prelude.{◌≡◌, Bool, cond, leb, get_or, take, drop}
+use Rattle.std.specs.Prelude.{◌≡◌, Bool, cond, leb, get_or, take, drop, Result, Ok, Err}
 use Rattle.std.proofs.Math.Path.{refl, ap}
 use Rattle.std.proofs.Common.{sym, subst, ◌∙◌, take_all, length-append, length-drop}
 use Rattle.std.proofs.Math.Bool.{true, false}
@@ -13,8 +13,6 @@ use Rattle.refusals.specs.Refusals.{not_aLetter, not_aLine}
 use Rattle.gate_alphabet.specs.Letters.{Letter, H, S, T, W, bytes, letters_of, are_letters, length-letters}
 use Rattle.gate_qasm.specs.declared.Refusal.{Refusal}
 use Rattle.gate_qasm.specs.declared.Refusal.TheVariants.{NotALetter, NotALine, NoRoom}
-use Rattle.gate_qasm.specs.declared.Answer.{Answer}
-use Rattle.gate_qasm.specs.declared.Answer.TheVariants.{Wrote, Refused}
 use Rattle.gate_qasm.specs.Text.{line, text_of, is_text, word_of, same}
 use Rattle.gate_qasm.specs.Calls.{number_of, fitted, write_of, Writes, read_of, Reads}
 use Rattle.gate_qasm.specs.lemmas.Back.{write_gives, read-gives}
@@ -40,37 +38,37 @@ unfolding text_of
 text-short [] = omega arith
 text-short (x ∷ w) = let a = length-append (text_of w) (line x) in let h = text-short w in let k = line-short x in omega arith
 
-wrote : {P : Type 0} {f : Refusal} {n : ℕ} → Refused f ≡ Wrote n → P
+wrote : {P : Type 0} {f : Refusal} {n : ℕ} → ◌≡◌ {A = Result ℕ Refusal} (Err f) (Ok n) → P
 wrote e = absurd (let y : ◌≡◌ {A = ℕ} 0 1 = cc in omega arith)
 
-same-refusal : {f g : Refusal} → Refused f ≡ Refused g → f ≡ g
+same-refusal : {f g : Refusal} → ◌≡◌ {A = Result ℕ Refusal} (Err f) (Err g) → f ≡ g
 same-refusal e = cc
 
 -- what was written, and that it had room
-got : (b m : Bool) (k n : ℕ) (f g : Refusal) → Wrote n ≡ cond b (cond m (Wrote k) (Refused g)) (Refused f) → (m ≡ true) × (n ≡ k)
+got : (b m : Bool) (k n : ℕ) (f g : Refusal) → Ok n ≡ cond b (cond m (Ok k) (Err g)) (Err f) → (m ≡ true) × (n ≡ k)
 got true true k n f g e = (refl, cc)
 got true false k n f g e = wrote (sym e)
 got false m k n f g e = wrote (sym e)
 
-pub write_wrote : (w s s' : List ℕ) (r : Answer) (n : ℕ) → Writes w s s' r → r ≡ Wrote n → (are_letters w ≡ true) × (take n s' ≡ text_of (letters_of w)) × (n ≤ length s)
+pub write_wrote : (w s s' : List ℕ) (r : Result ℕ Refusal) (n : ℕ) → Writes w s s' r → r ≡ Ok n → (are_letters w ≡ true) × (take n s' ≡ text_of (letters_of w)) × (n ≤ length s)
 unfolding write_of
 write_wrote w s s' r n c e =
-    let d : Writes w s s' (Wrote n) = subst (λ (a : Answer). Writes w s s' a) e c in
+    let d : Writes w s s' (Ok n) = subst (λ (a : Result ℕ Refusal). Writes w s s' a) e c in
     let t = text_of (letters_of w) in
     let p = got (are_letters w) (leb (length t) (length s)) (length t) n NotALetter NoRoom d.answers in
     let h = leb-true (length t) (length s) p.0 in
     ((write_gives d).0, (write_gives d).1, omega arith)
 
-pub read-wrote : (t s s' : List ℕ) (r : Answer) (n : ℕ) → Reads t s s' r → r ≡ Wrote n → (is_text t ≡ true) × (take n s' ≡ bytes (word_of t)) × (n ≤ length s)
+pub read-wrote : (t s s' : List ℕ) (r : Result ℕ Refusal) (n : ℕ) → Reads t s s' r → r ≡ Ok n → (is_text t ≡ true) × (take n s' ≡ bytes (word_of t)) × (n ≤ length s)
 unfolding read_of
 read-wrote t s s' r n c e =
-    let d : Reads t s s' (Wrote n) = subst (λ (a : Answer). Reads t s s' a) e c in
+    let d : Reads t s s' (Ok n) = subst (λ (a : Result ℕ Refusal). Reads t s s' a) e c in
     let w = bytes (word_of t) in
     let p = got (is_text t) (leb (length w) (length s)) (length w) n NotALine NoRoom d.answers in
     let h = leb-true (length w) (length s) p.0 in
     ((read-gives d).0, (read-gives d).1, omega arith)
 
-module _ (w : List ℕ) (f : Refusal) (short : length w ≤ 65536) (n : ℕ) (large : 524288 ≤ n) (e : Refused f ≡ write_of w n) where
+module _ (w : List ℕ) (f : Refusal) (short : length w ≤ 65536) (n : ℕ) (large : 524288 ≤ n) (e : Err f ≡ write_of w n) where
   pub write_refused : (are_letters w ≡ false) × (number_of f ≡ not_aLetter)
   unfolding write_of
   write_refused = go (are_letters w) refl e
@@ -78,11 +76,11 @@ module _ (w : List ℕ) (f : Refusal) (short : length w ≤ 65536) (n : ℕ) (la
       room : length (text_of (letters_of w)) ≤ n
       room = let a = text-short (letters_of w) in let b = length-letters w in omega arith
 
-      go : (b : Bool) → are_letters w ≡ b → Refused f ≡ cond b (fitted (text_of (letters_of w)) n) (Refused NotALetter) → (are_letters w ≡ false) × (number_of f ≡ not_aLetter)
+      go : (b : Bool) → are_letters w ≡ b → Err f ≡ cond b (fitted (text_of (letters_of w)) n) (Err NotALetter) → (are_letters w ≡ false) × (number_of f ≡ not_aLetter)
       go true a g = wrote {n = length (text_of (letters_of w))} (g ∙ rw (le-leb (length (text_of (letters_of w))) n room) refl)
       go false a g = (a, ap number_of (same-refusal g))
 
-module _ (t : List ℕ) (f : Refusal) (short : length t ≤ 524288) (n : ℕ) (large : 65536 ≤ n) (e : Refused f ≡ read_of t n) where
+module _ (t : List ℕ) (f : Refusal) (short : length t ≤ 524288) (n : ℕ) (large : 65536 ≤ n) (e : Err f ≡ read_of t n) where
   pub read-refused : (is_text t ≡ false) × (number_of f ≡ not_aLine)
   unfolding read_of
   read-refused = go (is_text t) refl e
@@ -90,7 +88,7 @@ module _ (t : List ℕ) (f : Refusal) (short : length t ≤ 524288) (n : ℕ) (l
       room : length (bytes (word_of t)) ≤ n
       room = let a = length-word t in omega arith
 
-      go : (b : Bool) → is_text t ≡ b → Refused f ≡ cond b (fitted (bytes (word_of t)) n) (Refused NotALine) → (is_text t ≡ false) × (number_of f ≡ not_aLine)
+      go : (b : Bool) → is_text t ≡ b → Err f ≡ cond b (fitted (bytes (word_of t)) n) (Err NotALine) → (is_text t ≡ false) × (number_of f ≡ not_aLine)
       go true a g = wrote {n = length (bytes (word_of t))} (g ∙ rw (le-leb (length (bytes (word_of t))) n room) refl)
       go false a g = (a, ap number_of (same-refusal g))
 

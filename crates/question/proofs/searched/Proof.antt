@@ -1,6 +1,5 @@
 use mathlib.Core.Path.{sym, ◌∙◌}
 use borrow.Author.Rules.{rules}
-use borrow.Author.Tests.{not-true, not-false}
 use Rattle.question.specs.Search.{refused_none}
 use Rattle.question.specs.lemmas.Void.{void_first, void_second}
 use Rattle.question.proofs.searched.Statement.{statement}

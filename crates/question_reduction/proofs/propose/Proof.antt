@@ -1,6 +1,6 @@
+use Rattle.std.specs.Prelude.{Ok}
 use mathlib.Core.Path.{◌≡◌, refl, sym, ◌∙◌}
 use borrow.Author.Rules.{rules}
-use Rattle.operator.specs.declared.Check.TheVariants.{Special}
 use Rattle.operator.specs.Operator.{identity, check_of, in_range, even_parity, special, det_whole, det_root}
 use Rattle.operator.specs.lemmas.Undoes.{inverse_is}
 use Rattle.question_reduction.proofs.propose.Statement.{statement}
@@ -15,7 +15,7 @@ reduced-requires c κs = sym c.is_accepted.ensures ∙ c.if-is_accepted.true
 returns : tie.Need-returns-then-is_accepted
 returns c = (inverse_is _ _ c.reduced-t.ensures.undone).0
 
-identity-special : check_of identity ≡ Special
+identity-special : check_of identity ≡ (Ok tt)
 unfolding check_of in_range even_parity special det_whole det_root
 identity-special = refl
 

@@ -1,3 +1,5 @@
+use Rattle.record_kinds.specs.declared.Refusal.{Refusal}
+use Rattle.std.specs.Prelude.{Result}
 use mathlib.Core.Path.{◌≡◌, sym, ◌∙◌, ap}
 use mathlib.Core.List.{List}
 use Prim.Native.Nat.{ℕ, ◌-◌}
@@ -8,7 +10,6 @@ use lib.Seq.{take_all}
 use borrow.Author.Rules.{rules}
 use borrow.Author.Tests.{ltb-false}
 use Rattle.record_kinds.specs.declared.Kind.{Kind}
-use Rattle.record_kinds.specs.declared.Admission.{Admission}
 use Rattle.record_kinds.specs.Kinds.{is_known, in_turn, body_length, admission_of, whole_long}
 use Rattle.record.specs.Record.{reading_of, reads, body_of, admitted, reading_none, reading_admitted}
 use Rattle.record.proofs.read.Statement.{statement}
@@ -39,7 +40,7 @@ module _ (c : tie.After-admit) where
   is = reading_admitted list start.args.turn kind kept.if-bytes-eq0.false kept.kind_of-kind.ensures c.admit.result told
 
   -- the same at what the match found the admission to be
-  found : (a : Admission) → c.admit.result ≡ a → reading_of list start.args.turn ≡ admitted a (body_of kind (drop 1 list))
+  found : (a : Result Unit Refusal) → c.admit.result ≡ a → reading_of list start.args.turn ≡ admitted a (body_of kind (drop 1 list))
   found a e = is ∙ ap (λ b. admitted b (body_of kind (drop 1 list))) e
 
 returns : tie.Need-returns-then-bytes-eq0
@@ -85,17 +86,17 @@ body-requires : tie.Need-body-requires
 body-requires c κs =
     let e = c in
     let a = e.before.before in
-    let long = ltb-false (length (list a) - 1) (body_length (kind a)) (whole_long _ _ _ (sym (told a) ∙ e.in-Whole.is)) in
+    let long = ltb-false (length (list a) - 1) (body_length (kind a)) (whole_long _ _ _ (sym (told a) ∙ e.in-Ok.is)) in
     rw (all (list a), length-drop 1 (list a)) long
 
-returns-2 : tie.Need-returns-in-Refused
-returns-2 c = reads (sym (found c.before _ c.in-Refused.is))
+returns-2 : tie.Need-returns-in-Err
+returns-2 c = reads (sym (found c.before _ c.in-Err.is))
 
-returns-3 : tie.Need-returns-in-Whole
+returns-3 : tie.Need-returns-in-Ok
 returns-3 c =
     let e = c in
     let a = e.before.before in
-    reads (c.body.ensures ∙ ap (body_of (kind a.before)) (all (list a.before)) ∙ sym (found a.before _ e.in-Whole.is))
+    reads (c.body.ensures ∙ ap (body_of (kind a.before)) (all (list a.before)) ∙ sym (found a.before _ e.in-Ok.is))
 
 pub read_spec : {M : Type 1} → statement M
 read_spec =

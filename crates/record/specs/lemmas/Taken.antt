@@ -1,5 +1,5 @@
 -- An accepted reading takes its kind byte and its body: one byte at least, and no more than there are.
-use Rattle.std.specs.Prelude.{◌≡◌, refl, Bool, true, false, cond, eqb, ltb, leb}
+use Rattle.std.specs.Prelude.{◌≡◌, refl, Bool, true, false, cond, eqb, ltb, leb, Result, Ok, Err}
 use mathlib.Core.List.{List, [], ◌∷◌}
 use Prim.Native.Nat.{ℕ, suc, ◌≤◌}
 use native.Mathlib.Omega.{arith}
@@ -7,12 +7,12 @@ use Rattle.std.proofs.Math.ListN.{length}
 use borrow.Author.Tests.{ltb-false}
 use Rattle.region.specs.declared.Region.{Region}
 use Rattle.region.specs.declared.Region.TheVariants as Shape
-use Rattle.region.specs.declared.Check.TheVariants as R
-use Rattle.region.specs.declared.Check as RegionCheck
+use Rattle.region.specs.declared.Refusal.TheVariants as R
+use Rattle.region.specs.declared.Refusal as RegionCheck
 use Rattle.region.specs.Region as Reg
 use Rattle.operator.specs.declared.Operator.{Operator}
-use Rattle.operator.specs.declared.Check.TheVariants as O
-use Rattle.operator.specs.declared.Check as OperatorCheck
+use Rattle.operator.specs.declared.Refusal.TheVariants as O
+use Rattle.operator.specs.declared.Refusal as OperatorCheck
 use Rattle.operator.specs.Operator as Op
 use Rattle.record_kinds.specs.declared.Kind.{Kind}
 use Rattle.record_kinds.specs.declared.Kind.TheVariants as K
@@ -21,8 +21,6 @@ use Rattle.record.specs.declared.Record.{Record}
 use Rattle.record.specs.declared.Record.TheVariants as Rec
 use Rattle.record_kinds.specs.declared.Refusal.{Refusal}
 use Rattle.record_kinds.specs.declared.Refusal.TheVariants.{OutOfRange}
-use Rattle.record_kinds.specs.declared.Admission.{Admission}
-use Rattle.record_kinds.specs.declared.Admission.TheVariants as A
 use Rattle.record.specs.declared.Reading.{Reading}
 use Rattle.record.specs.declared.Reading.TheVariants.{Accepted, Refused}
 use Rattle.record_fields.specs.Field.{unsigned_at}
@@ -44,17 +42,17 @@ module _ (x : Record) (n : ℕ) where
   selected true c e = same _ 2 e
   selected false c e = picked c (Rec.Selection true) 2 OutOfRange e
 
-  region-takes : (c : RegionCheck.Check) (r : Region) (m : ℕ) → region_reading c r m ≡ Accepted x n → n ≡ m
-  region-takes R.Accepted r m e = same _ m e
-  region-takes R.OutOfRange r m e = never _ e
-  region-takes R.NotPositive r m e = never _ e
-  region-takes R.NoDirection r m e = never _ e
+  region-takes : (c : Result Unit RegionCheck.Refusal) (r : Region) (m : ℕ) → region_reading c r m ≡ Accepted x n → n ≡ m
+  region-takes (Ok tt) r m e = same _ m e
+  region-takes (Err R.OutOfRange) r m e = never _ e
+  region-takes (Err R.NotPositive) r m e = never _ e
+  region-takes (Err R.NoDirection) r m e = never _ e
 
-  operator-takes : (c : OperatorCheck.Check) (g : Operator) (m : ℕ) → operator_reading c g m ≡ Accepted x n → n ≡ m
-  operator-takes O.Special g m e = same _ m e
-  operator-takes O.OutOfRange g m e = never _ e
-  operator-takes O.OddParity g m e = never _ e
-  operator-takes O.NotSpecial g m e = never _ e
+  operator-takes : (c : Result Unit OperatorCheck.Refusal) (g : Operator) (m : ℕ) → operator_reading c g m ≡ Accepted x n → n ≡ m
+  operator-takes (Ok tt) g m e = same _ m e
+  operator-takes (Err O.OutOfRange) g m e = never _ e
+  operator-takes (Err O.OddParity) g m e = never _ e
+  operator-takes (Err O.NotSpecial) g m e = never _ e
 
   body-takes : (k : Kind) (s : List ℕ) → body_of k s ≡ Accepted x n → n ≡ suc (body_length k)
   unfolding body_of scale_of selection_of
@@ -66,9 +64,9 @@ module _ (x : Record) (n : ℕ) where
   body-takes K.Selection s e = selected (eqb (unsigned_at 1 s 0) 0) (eqb (unsigned_at 1 s 0) 1) e
   body-takes K.Unknown s e = never _ e
 
-  admitted-whole : (a : Admission) (r : Reading) → admitted a r ≡ Accepted x n → (a ≡ A.Whole) × (r ≡ Accepted x n)
-  admitted-whole (A.Refused why) r e = never why e
-  admitted-whole A.Whole r e = (refl, e)
+  admitted-whole : (a : Result Unit Refusal) (r : Reading) → admitted a r ≡ Accepted x n → (a ≡ (Ok tt)) × (r ≡ Accepted x n)
+  admitted-whole (Err why) r e = never why e
+  admitted-whole (Ok tt) r e = (refl, e)
 
   pub reading_takes : (l : List ℕ) (t : Turn) → reading_of l t ≡ Accepted x n → (1 ≤ n) × (n ≤ length l)
   unfolding reading_of

@@ -14,14 +14,14 @@ divide-root2-requires c κs = search rules
 enum_told : tie.Need-enum_told-1
 enum_told c = search rules
 
-enum-told-2 : tie.Need-enum_told-in-NotInRing
+enum-told-2 : tie.Need-enum_told-in-None
 enum-told-2 c = search rules
 
-returns-2 : tie.Need-returns-in-Whole
-returns-2 c = let s = c in sym (new_whole s.args.k s.args.v _ (omega arith) (sym c.divide_root2.ensures ∙ c.in-Whole.is))
+returns-2 : tie.Need-returns-in-Some
+returns-2 c = let s = c in sym (new_whole s.args.k s.args.v _ (omega arith) (sym c.divide_root2.ensures ∙ c.in-Some.is))
 
-returns-3 : tie.Need-returns-in-NotInRing
-returns-3 c = let s = c in sym (new_not s.args.k s.args.v (sym c.divide_root2.ensures ∙ c.in-NotInRing.is))
+returns-3 : tie.Need-returns-in-None
+returns-3 c = let s = c in sym (new_not s.args.k s.args.v (sym c.divide_root2.ensures ∙ c.in-None.is))
 
 pub is_new_spec : {M : Type 1} → statement M
 is_new_spec =

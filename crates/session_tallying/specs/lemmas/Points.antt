@@ -1,14 +1,11 @@
 -- The points that a hand-out writes are points of the job's list; where it lists the new points alone, all have its scale for exponent.
 -- Assumes nothing.
-use Rattle.std.specs.Prelude.{◌≡◌, refl, Bool, true, false, ◌||◌, ℕ, ◌*◌, ◌/◌, ◌≤◌, ◌<◌, eqb, ℤ, length, take, drop}
+use Rattle.std.specs.Prelude.{◌≡◌, refl, Bool, true, false, ◌||◌, ℕ, ◌*◌, ◌/◌, ◌≤◌, ℤ, length, take, drop}
 use Rattle.std.proofs.Common.{sym, ap, ap₂, ◌∙◌, arith, length-take, eqb-true}
 use Rattle.std.proofs.lemmas.Bool.{false≢true}
 use mathlib.Core.List.{List, [], ◌∷◌, map}
 use Rattle.std.proofs.Math.Nat.{min-le_left}
-use Rattle.ring.specs.declared.Point.{Point}
-use Rattle.ring.specs.Point.Exponent.{exponent_of}
 use Rattle.region.specs.declared.Job.{Job}
-use Rattle.record_ranges.specs.Ranges.{top_scale}
 use Rattle.region.specs.lemmas.Membership.{solves-true}
 use Rattle.region.specs.Selection.{is_new, listed-parts, exponent_most}
 use Rattle.ranks.specs.Rest.{at, ended, is_nil, rest}

@@ -15,12 +15,6 @@ use Rattle.text_words.specs.Numbers.{word_at, leading_with, leading_from, leadin
 use borrow.Author.Rules.{rules}
 use Rattle.text_words.proofs.leading.Statement.{statement}
 use Rattle.text_words.proofs.leading.Tie as tie
-use Rattle.text_words.proofs.leading.Reads as reads
-use Rattle.text_words.proofs.leading.Lts as lts
-use Rattle.text_scan.proofs.spaces_from.Reads as spaces-from-reads
-use Rattle.text_words.proofs.counted.Reads as counted-reads
-use Rattle.text_words.proofs.no_numbers.Reads as no-numbers-reads
-use Rattle.text_words.proofs.word_at.Reads as word-at-reads
 
 abbrev invariant-loop : tie.invariant-loop-at
 invariant-loop line from most values₀ count₀ at₀ values count at =

@@ -11,10 +11,6 @@ use Rattle.text_words.specs.Numbers.{leading-bad, before-over, before-other, bef
 use borrow.Author.Rules.{rules}
 use Rattle.text_words.proofs.numbers_before.Statement.{statement}
 use Rattle.text_words.proofs.numbers_before.Tie as tie
-use Rattle.text_words.proofs.numbers_before.Reads as reads
-use Rattle.text_words.proofs.numbers_before.Lts as lts
-use Rattle.text_words.proofs.leading.Reads as leading-reads
-use Rattle.text_words.proofs.no_numbers.Reads as no-numbers-reads
 
 module _ (c : tie.After-leading-l) where
   abbrev n : ℕ

@@ -17,17 +17,17 @@ enum-known-v c = search rules
 refused-requires : tie.Need-refused-requires
 refused-requires c κs = search rules
 
-returns : tie.Need-returns-in-Taken
+returns : tie.Need-returns-in-Ok
 returns c =
     let s = c in
     ap₂ (λ a m. (answer_of [] a, m)) c.begun.ensures.1 c.begun.ensures.0
-    ∙ took_taken (meaning c.args.s) c.args.g.tray _ c.args.g.verdict refl c.in-Taken.is
+    ∙ took_taken (meaning c.args.s) c.args.g.tray _ c.args.g.verdict refl c.in-Ok.is
 
-returns-2 : tie.Need-returns-in-Refused
+returns-2 : tie.Need-returns-in-Err
 returns-2 c =
     let s = c in
     ap₂ (λ z a. outcome [] z a) c.refused.ensures.0 c.refused.ensures.1
-    ∙ took_refused (meaning c.args.s) c.args.g.tray _ c.args.g.verdict refl _ c.in-Refused.is
+    ∙ took_refused (meaning c.args.s) c.args.g.tray _ c.args.g.verdict refl _ c.in-Err.is
 
 pub taken_spec : {M : Type 1} → statement M
 taken_spec =

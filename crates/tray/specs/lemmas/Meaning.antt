@@ -1,7 +1,7 @@
 -- A session's meaning fixes the session: whether a tray was taken, and then the tray and where its walk stands. Before one is taken the tray there says nothing.
-use Rattle.std.specs.Prelude.{◌≡◌, ℕ}
+use Rattle.ring.specs.declared.Point.{Point}
+use Rattle.std.specs.Prelude.{◌≡◌, ℕ, Option}
 use Rattle.std.proofs.Common.{arith}
-use Rattle.walk_list.specs.declared.Spot.{Spot}
 use Rattle.session_stages.specs.Meaning.{SpotFits, spot-one}
 use Rattle.tray_list.specs.declared.Tray.{Tray}
 use Rattle.tray.specs.declared.Stage.{Stage}
@@ -12,14 +12,14 @@ use Rattle.tray.specs.Session.{stage_of, meaning}
 -- the place of a walk is a point of signed 32-bit numbers, as in every session of machine numbers
 pub data Fits : Stage → Type 0 where
   early : Fits S.Early
-  walking : {p : Spot} → SpotFits p → Fits (S.Walking p)
+  walking : {p : Option Point} → SpotFits p → Fits (S.Walking p)
 
 -- the same stage, and once a tray was taken the same tray
 pub data Same : Session → Session → Type 0 where
   both-early : {t u : Tray} → Same (record { stage = S.Early; tray = t }) (record { stage = S.Early; tray = u })
-  both-walking : {p : Spot} {t : Tray} → Same (record { stage = S.Walking p; tray = t }) (record { stage = S.Walking p; tray = t })
+  both-walking : {p : Option Point} {t : Tray} → Same (record { stage = S.Walking p; tray = t }) (record { stage = S.Walking p; tray = t })
 
-walking_one : {p q : Spot} {t u : Tray} → p ≡ q → t ≡ u → Same (record { stage = S.Walking p; tray = t }) (record { stage = S.Walking q; tray = u })
+walking_one : {p q : Option Point} {t u : Tray} → p ≡ q → t ≡ u → Same (record { stage = S.Walking p; tray = t }) (record { stage = S.Walking q; tray = u })
 walking_one e f = rw (e, f) both-walking
 
 stage_one : {g h : Stage} (t u : Tray) → Fits g → Fits h → stage_of t g ≡ stage_of u h → Same (record { stage = g; tray = t }) (record { stage = h; tray = u })

@@ -1,3 +1,4 @@
+use Rattle.std.specs.Prelude.{Option}
 use mathlib.Core.List.{List}
 use mathlib.Core.Path.{◌≡◌, refl, sym, ap, ap₂, subst, ◌∙◌}
 use Prim.Native.Nat.{ℕ, suc, ◌+◌, ◌-◌, ◌*◌, ◌/◌, ◌<◌, ◌≤◌}
@@ -16,7 +17,6 @@ use Rattle.tray_list.proofs.Bits.{bits_below}
 use Rattle.tray_list.specs.Tray.{any_at, mask_at, five_of, left, size, holds}
 use Rattle.tray_list.specs.declared.Tray.{Tray}
 use Rattle.walk_list.specs.Walk.{rank_of, spot_of, numbers_in}
-use Rattle.walk_list.specs.declared.Spot.{Spot}
 use Rattle.region.specs.declared.Job.{Job}
 use Rattle.cuts.specs.Digits.{span}
 use Rattle.ranks.specs.Handed.{Dealt}
@@ -55,7 +55,7 @@ module _ (t : Tray) (J : ℕ → Job) (p : ℕ) (q : List ℤ) (xs es : List ℕ
     again-spot : nearest_of (size t) (front_at q' xs' es') ≡ place_of (left t p)
     again-spot = nearest_is t J p q' xs' es' ws' again-has f.within again-told
 
-    again-stands : (s : Spot) → spot_of s ≡ place_of (left t p) → Stands t J s q' xs' es' ws'
+    again-stands : (s : Option Point) → spot_of s ≡ place_of (left t p) → Stands t J s q' xs' es' ws'
     again-stands s e = stands_on t J p q' xs' es' ws' s e again-has f.within again-told
 
 -- after the first fill
@@ -183,7 +183,7 @@ five t r l i m e =
     ap₂ (λ (k n : ℕ). set (sets l i (numbers_in r)) k (pos n)) four e
 
 -- at the point that is next
-module _ (f : tie.In-At invariant-loop decreases-loop) where
+module _ (f : tie.In-Some invariant-loop decreases-loop) where
   abbrev loop-of : tie.At-loop-k invariant-loop decreases-loop
   loop-of = f.before.before
 
@@ -191,18 +191,18 @@ module _ (f : tie.In-At invariant-loop decreases-loop) where
   from-of = ground loop-of.before.before
 
   abbrev point : Point
-  point = f.in-At.v
+  point = f.in-Some.v
 
   lanes_here : Lanes (tray from-of) (jobs from-of) (rank_of point) loop-of.loop-k.queue loop-of.loop-k.at loop-of.loop-k.end loop-of.loop-k.after
   lanes_here =
-      subst (λ (w : Spot). Stands (tray from-of) (jobs from-of) w loop-of.loop-k.queue loop-of.loop-k.at loop-of.loop-k.end loop-of.loop-k.after) f.in-At.is loop-of.loop-k.invariant.6
+      subst (λ (w : Option Point). Stands (tray from-of) (jobs from-of) w loop-of.loop-k.queue loop-of.loop-k.at loop-of.loop-k.end loop-of.loop-k.after) f.in-Some.is loop-of.loop-k.invariant.6
 
   in-range : rank_of point < top span
-  in-range = below_top (any_at (tray from-of)) (top span) loop-of.loop-k.k (rank_of point) (spot_of loop-of.before.before.nearest-f.result) (sym loop-of.loop-k.invariant.0.place ∙ ap spot_of f.in-At.is)
+  in-range = below_top (any_at (tray from-of)) (top span) loop-of.loop-k.k (rank_of point) (spot_of loop-of.before.before.nearest-f.result) (sym loop-of.loop-k.invariant.0.place ∙ ap spot_of f.in-Some.is)
 
 -- behind it
 module _ (a : tie.After-advance-s invariant-loop decreases-loop) where
-  abbrev at_f : tie.In-At invariant-loop decreases-loop
+  abbrev at_f : tie.In-Some invariant-loop decreases-loop
   at_f = a.before.before.before.before.before
 
   abbrev next-at : List ℕ
@@ -245,7 +245,7 @@ module _ (o : tie.After-out-1 invariant-loop decreases-loop) where
       → Dealt (five_of (tray (base adv))) 5 (left_at (any_at (tray (base adv))) (top span) (spot_of here.nearest-f.result)) old (here.loop-k.k + 1) new w
   dealt w e =
       let i = here.loop-k.invariant in
-      let d = rw (ap spot_of (at_f adv).in-At.is) at i.0 in
+      let d = rw (ap spot_of (at_f adv).in-Some.is) at i.0 in
       let test = (at_f adv).loop-k-test.true in
       dealt_more (five_of (tray (base adv))) 5 (λ x. refl) (any_at (tray (base adv))) (top span) (spot_of here.nearest-f.result) old here.loop-k.k here.loop-k.out (rank_of (point (at_f adv))) w d (omega arith) e
 
@@ -500,15 +500,15 @@ returns c =
     let e : c.loop-k.k ≡ length (start_of r).args.out.now / 5 = omega arith in
     rw (← same_left c.before.before.before, ← e) (dealt_full (five_of (tray r)) 5 (λ x. refl) _ _ _ _ _ i.0)
 
-same-length-2 : tie.Need-shape_of-out-in-Ended invariant-loop decreases-loop
+same-length-2 : tie.Need-shape_of-out-in-None invariant-loop decreases-loop
 same-length-2 c = c.loop-k.invariant.2
 
-returns-2 : tie.Need-returns-in-Ended invariant-loop decreases-loop
+returns-2 : tie.Need-returns-in-None invariant-loop decreases-loop
 returns-2 c =
     let l = c in
     let r = ground c.before.before.before.before in
     let i = c.loop-k.invariant in
-    rw (← same_left c.before.before.before.before) (dealt_end (five_of (tray r)) 5 (λ x. refl) _ _ _ _ _ _ (ap spot_of c.in-Ended.is) i.0 i.1)
+    rw (← same_left c.before.before.before.before) (dealt_end (five_of (tray r)) 5 (λ x. refl) _ _ _ _ _ _ (ap spot_of c.in-None.is) i.0 i.1)
 
 pub deal_spec : {M : Type 1} → statement M
 deal_spec =

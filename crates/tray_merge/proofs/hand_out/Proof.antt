@@ -32,13 +32,13 @@ enum_told c = search rules
 same_length : tie.Need-shape_of-out
 same_length c = search rules
 
-returns : tie.Need-returns-in-At
-returns c = rw (ap spot_of c.in-At.is) c.deal.ensures
+returns : tie.Need-returns-in-Some
+returns c = rw (ap spot_of c.in-Some.is) c.deal.ensures
 
-returns-2 : tie.Need-returns-in-Ended
+returns-2 : tie.Need-returns-in-None
 returns-2 c =
     let s = c in
-    gave_none c.args.t _ _ _ (ap (λ p. left_at (any_at c.args.t) (top span) (spot_of p)) c.in-Ended.is)
+    gave_none c.args.t _ _ _ (ap (λ p. left_at (any_at c.args.t) (top span) (spot_of p)) c.in-None.is)
 
 pub hand_out_spec : {M : Type 1} → statement M
 hand_out_spec =

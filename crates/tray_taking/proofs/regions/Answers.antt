@@ -82,12 +82,12 @@ overflow_add-count c = omega arith
 
 pub overflow_add-at : goal.overflow_add-at
 overflow_add-at c =
-    let w = within c.args.a.now c.loop-at.at c.in-Region.g c.in-Region.n c.loop-at-test.true (found_at c.args.a.now c.loop-at.at _ c.one-f.result c.in-Region.is c.one-f.ensures) in
+    let w = within c.args.a.now c.loop-at.at c.in-Region.g c.in-Region.n c.loop-at-test.true (found_at c.args.a.now c.loop-at.at _ _ refl c.in-Region.ensures) in
     record { fits = omega arith }
 
 pub loop-at-smaller : goal.loop-at-smaller
 loop-at-smaller c =
-    let w = within c.args.a.now c.loop-at.at c.in-Region.g c.in-Region.n c.loop-at-test.true (found_at c.args.a.now c.loop-at.at _ c.one-f.result c.in-Region.is c.one-f.ensures) in
+    let w = within c.args.a.now c.loop-at.at c.in-Region.g c.in-Region.n c.loop-at-test.true (found_at c.args.a.now c.loop-at.at _ _ refl c.in-Region.ensures) in
     omega arith
 
 pub loop-at-preserved : goal.loop-at-preserved
@@ -98,7 +98,7 @@ loop-at-preserved c =
     let i = c.loop-at.invariant.2 in
     let g = c.in-Region.g in
     let n = c.in-Region.n in
-    let found = found_at a at (O.Region g n) c.one-f.result c.in-Region.is c.one-f.ensures in
+    let found = found_at a at (O.Region g n) _ refl c.in-Region.ensures in
     let w = within a at g n c.loop-at-test.true found in
     let room : count < 8 = omega (arith, c.if-count-eq8.false) in (
       w.1,
@@ -116,7 +116,7 @@ returns-in-Refused c =
     let a = c.args.a.now in
     let at = c.loop-at.at in
     let i = c.loop-at.invariant.2 in
-    let found = found_at a at (O.Refused c.in-Refused.why) c.one-f.result c.in-Refused.is c.one-f.ensures in
+    let found = found_at a at (O.Refused c.in-Refused.why) _ refl c.in-Refused.ensures in
     let room : c.loop-at.count < 8 = omega (arith, c.if-count-eq8.false) in
     rw (failed a at c.loop-at.count i.0 i.1 i.3 c.loop-at-test.true room c.in-Refused.why found) (search rules)
 

@@ -1,6 +1,6 @@
 -- The records of A, one after another: what is read so far and what is still to come.
-use Rattle.std.specs.Prelude.{◌≡◌, refl, Bool, true, false, cond, ◌&&◌, List, [], ◌∷◌, ◌++◌, ℕ, zero, suc, ◌+◌, ◌-◌, ◌≤◌, ◌<◌, eqb, leb, ltb, length, drop, set}
-use Rattle.std.proofs.Common.{sym, ap, ◌∙◌, arith}
+use Rattle.std.specs.Prelude.{◌≡◌, refl, Bool, true, false, cond, ◌&&◌, List, [], ◌∷◌, ◌++◌, ℕ, zero, suc, ◌≤◌, ◌<◌, eqb, leb, ltb, length, drop, set}
+use Rattle.std.proofs.Common.{sym, ap, arith}
 use Rattle.refusals.specs.Refusals.{beyond_range, form}
 use Rattle.region.specs.declared.Region.{Region}
 use Rattle.record_kinds.specs.declared.Turn.TheVariants as T

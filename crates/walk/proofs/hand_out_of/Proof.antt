@@ -1,3 +1,4 @@
+use Rattle.std.specs.Prelude.{Err}
 use mathlib.Core.Path.{◌≡◌, sym, ap, subst}
 use borrow.Author.Rules.{rules}
 use Rattle.region.specs.Decide.{not_accepted}
@@ -6,7 +7,6 @@ use Rattle.ranks.specs.Rest.{left_at}
 use Rattle.ranks.specs.Rank.{top}
 use Rattle.cuts.specs.Digits.{span}
 use Rattle.walk_list.specs.Walk.{listed_at, spot_of}
-use Rattle.walk.specs.declared.Prepared.TheVariants as P
 use Rattle.walk.specs.Prepared.{job_of, Prepares}
 use Rattle.walk.specs.lemmas.Hand.{none-at, gave_none}
 use Rattle.walk.proofs.hand_out_of.Statement.{statement}
@@ -21,16 +21,16 @@ enum-known-from c = search rules
 deal-requires : tie.Need-deal-requires
 deal-requires c κs =
     let p = c in
-    subst Prepares c.in-Accepted.is c.requires
+    subst Prepares c.in-Ok.is c.requires
 
-same_length : tie.Need-shape_of-out-in-At
+same_length : tie.Need-shape_of-out-in-Some
 same_length c = search rules
 
-returns : tie.Need-returns-in-At
+returns : tie.Need-returns-in-Some
 returns c =
     let f = c in
     let p = f in
-    rw (c.in-Accepted.is, ap spot_of c.in-At.is) c.deal.ensures
+    rw (c.in-Ok.is, ap spot_of c.in-Some.is) c.deal.ensures
 
 enum_told : tie.Need-enum_told-1
 enum_told c = search rules
@@ -47,7 +47,7 @@ returns-3 : tie.Need-returns-in_default
 returns-3 c =
     let s = c in
     let j = c.in_default.field-0 in
-    let e : c.args.p ≡ P.Refused j = c.in_default.is in
+    let e : c.args.p ≡ Err j = c.in_default.is in
     let n = subst Prepares e c.requires in
     gave_none _ _ _ (rw e (none-at j (λ v. unsolved j v (sym (not_accepted j v n))) (spot_of c.args.from)))
 

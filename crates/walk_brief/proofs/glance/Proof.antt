@@ -1,6 +1,5 @@
 use mathlib.Core.Path.{◌≡◌, sym, ◌∙◌}
 use mathlib.Core.Bool.{true}
-use borrow.Author.Tests.{not-true, not-false}
 use Rattle.region.specs.Region.{accepted_job}
 use Rattle.region.specs.Decide.{not_accepted}
 use Rattle.region.specs.Selection.{unsolved}

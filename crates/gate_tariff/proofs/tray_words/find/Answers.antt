@@ -24,10 +24,10 @@ module _ (b : ℕ) (s : List ℕ) (i : ℕ) where
   at-end h = ap (index_of b) (drop_of_length-le s h)
 
 pub returns-then-s-i : goal.returns-then-s-i
-returns-then-s-i c = omega (arith, c.loop-i.invariant.1, at-place c.args.b c.args.s.now c.loop-i.i c.loop-i-test.true c.if-s-i.true)
+returns-then-s-i c = omega (arith, c.loop-i.invariant, at-place c.args.b c.args.s.now c.loop-i.i c.loop-i-test.true c.if-s-i.true)
 
 pub loop-i-preserved : goal.loop-i-preserved
-loop-i-preserved c = (omega arith, omega (arith, c.loop-i.invariant.1, at-other c.args.b c.args.s.now c.loop-i.i c.loop-i-test.true c.if-s-i.false))
+loop-i-preserved c = omega (arith, c.loop-i.invariant, at-other c.args.b c.args.s.now c.loop-i.i c.loop-i-test.true c.if-s-i.false)
 
 pub returns : goal.returns
-returns c = omega (arith, c.loop-i.invariant.1, at-end c.args.b c.args.s.now c.loop-i.i c.loop-i-test.false)
+returns c = omega (arith, c.loop-i.invariant, at-end c.args.b c.args.s.now c.loop-i.i c.loop-i-test.false)

@@ -1,7 +1,6 @@
 use mathlib.Core.Path.{sym, ◌∙◌, ap}
 use native.Mathlib.Omega.{arith}
 use Rattle.gate_theory.specs.Bits.{odd}
-use Rattle.gate_theory.specs.Parities.{parities}
 use Rattle.gates.specs.Going.{syllables-none, syllables-odd, syllables-side, side-two}
 use borrow.Author.Rules.{rules}
 use Rattle.gates.proofs.spell.syllables.Statement.{statement}

@@ -19,8 +19,8 @@ lower-requires c κs = within c.before.before
 returns : tie.Need-returns-then-upper
 returns c h = solved-row _ _ _ _ ∙ both_of (sym c.lower.ensures ∙ h) (sym c.upper.ensures ∙ c.if-upper.true)
 
-returns-2 : tie.Need-returns
-returns-2 c h = absurd (false≢true h)
+returns-2 : tie.Need-returns-else-upper
+returns-2 c h = absurd (false≢true (sym c.if-upper.false ∙ h))
 
 pub is_pair_spec : {M : Type 1} → statement M
 is_pair_spec = tie.close (tie.spec upper-requires lower-requires returns returns-2)

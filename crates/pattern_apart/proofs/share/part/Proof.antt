@@ -1,6 +1,4 @@
-use Prim.Native.Nat.{◌≤◌}
 use native.Mathlib.Omega.{arith}
-use lib.IntN.{nat_abs}
 use mir.Syntax.{w16, w64}
 use mir.Val.{SFits}
 use mir.Facts.{to_z-of_z}

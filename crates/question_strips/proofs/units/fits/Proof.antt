@@ -1,3 +1,4 @@
+use mathlib.Core.Path.{sym, ◌∙◌}
 use mathlib.Core.Bool.{false≢true}
 use borrow.Author.Rules.{rules}
 use Rattle.question_strips.proofs.units.fits.Statement.{statement}
@@ -13,7 +14,7 @@ returns : tie.Need-returns-then-has_short_ends
 returns c = λ t. (c.has_short_ends.ensures c.if-has_short_ends.true, c.has_short_ends-then-has_short_ends.ensures t)
 
 returns-2 : tie.Need-returns-else-has_short_ends
-returns-2 c = λ t. absurd (false≢true t)
+returns-2 c = λ t. absurd (false≢true (sym c.if-has_short_ends.false ∙ t))
 
 pub fits_spec : {M : Type 1} → statement M
 fits_spec = tie.close (tie.spec has-short-ends-requires has-short-ends-requires-2 returns returns-2)

@@ -1,4 +1,3 @@
-use mathlib.Core.Bool.{false≢true}
 use native.Mathlib.Omega.{arith}
 use mir.Syntax.{w64}
 use mir.Val.{SFits}
@@ -27,7 +26,7 @@ returns c =
     λ t. record { p = omega arith; q = omega (arith, leb-true c.abs-then-abs-le-LARGEST.result end_size t) }
 
 returns-2 : tie.Need-returns-else-abs-le-LARGEST
-returns-2 c = λ t. absurd (false≢true t)
+returns-2 c = λ t. absurd (let h = c.if-abs-le-LARGEST.false in omega (arith, leb-true c.abs.result end_size t))
 
 pub is_short_spec : {M : Type 1} → statement M
 is_short_spec = tie.close (tie.spec abs-requires abs-requires-2 returns returns-2)

@@ -1,6 +1,6 @@
 -- `bytes_at` meets its contract: a word lies within its line. Assumes nothing.
-use Prim.Native.Nat.{ℕ, ◌≤◌, ◌<◌}
-use mathlib.Core.Path.{◌≡◌, refl, sym, ap, ◌∙◌}
+use Prim.Native.Nat.{ℕ, ◌≤◌}
+use mathlib.Core.Path.{◌≡◌, refl, ap, ◌∙◌}
 use mathlib.Core.Bool.{false}
 use mathlib.Core.List.{List}
 use native.Mathlib.Nat.{le_of_lt}
@@ -12,11 +12,6 @@ use Rattle.text_words.specs.Bytes.{next_from, bytes_of, bytes_written}
 use borrow.Author.Rules.{rules}
 use Rattle.text_words.proofs.digits.bytes_at.Statement.{statement}
 use Rattle.text_words.proofs.digits.bytes_at.Tie as tie
-use Rattle.text_words.proofs.digits.bytes_at.Reads as reads
-use Rattle.text_words.proofs.digits.bytes_at.Lts as lts
-use Rattle.text_scan.proofs.spaces_from.Reads as spaces-from-reads
-use Rattle.text_scan.proofs.word_end.Reads as word-end-reads
-use Rattle.text_words.proofs.digits.dashed.Reads as dashed-reads
 
 module _ (c : tie.After-spaces_from-next) where
   abbrev start : tie.Start

@@ -1,6 +1,5 @@
 -- `dashed` meets its contract. Assumes nothing.
 use mathlib.Core.Path.{◌≡◌, refl, sym, ◌∙◌}
-use mathlib.Core.Bool.{Bool}
 use mathlib.Core.List.{[], ◌∷◌}
 use Rattle.text_words.specs.Names.{is_name, name_told}
 use Rattle.text_words.specs.Bytes.{dash_of, dash_written}

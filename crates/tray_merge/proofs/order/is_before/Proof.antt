@@ -12,10 +12,10 @@ before-requires c κs = search rules
 enum_told : tie.Need-enum_told-1
 enum_told c = search rules
 
-returns : tie.Need-returns-in-At
-returns c = c.before-in-At.ensures ∙ rw c.in-At.is refl
+returns : tie.Need-returns-in-Some
+returns c = c.before-in-Some.ensures ∙ rw c.in-Some.is refl
 
-returns-2 : tie.Need-returns-in-Ended
+returns-2 : tie.Need-returns-in-None
 returns-2 c = search rules
 
 pub is_before_spec : {M : Type 1} → statement M

@@ -18,17 +18,17 @@ enum_told c = search rules
 returns : tie.Need-returns-then-before
 returns c =
     let k = c in
-    let h = ltb-true _ _ (sym c.before.before-in-At.ensures ∙ c.if-before.true) in
-    rw c.in-At.is (ap at (sym (min-eq_right (le_of_lt h))))
+    let h = ltb-true _ _ (sym c.before.before-in-Some.ensures ∙ c.if-before.true) in
+    rw c.in-Some.is (ap at (sym (min-eq_right (le_of_lt h))))
 
 returns-2 : tie.Need-returns-else-before
 returns-2 c =
     let k = c in
-    let h = ltb-false _ _ (sym c.before.before-in-At.ensures ∙ c.if-before.false) in
-    rw c.in-At.is (ap at (sym (min-eq_left h)))
+    let h = ltb-false _ _ (sym c.before.before-in-Some.ensures ∙ c.if-before.false) in
+    rw c.in-Some.is (ap at (sym (min-eq_left h)))
 
-returns-3 : tie.Need-returns-in-Ended
-returns-3 c = rw c.in-Ended.is refl
+returns-3 : tie.Need-returns-in-None
+returns-3 c = rw c.in-None.is refl
 
 pub nearer_to_spec : {M : Type 1} → statement M
 nearer_to_spec =

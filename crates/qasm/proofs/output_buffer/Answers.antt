@@ -1,6 +1,0 @@
-use Rattle.std.proofs.Common.{sym, ℕ}
-use Rattle.std.proofs.lemmas.List.{length-replicate}
-use Rattle.qasm.proofs.output_buffer.Goals as goal
-
-pub returns : goal.returns
-returns c = sym (length-replicate {0} {A = ℕ} 524335 0)
