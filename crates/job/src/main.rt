@@ -10,6 +10,8 @@ struct Job;
 impl Filter for Job {
     ghost text = { job_of };
 
+    ghost space = { 458753 };
+
     ghost room = { 65536 };
 
     fn put(out: &mut [u8], bytes: &[u8]) -> usize {

@@ -9,9 +9,12 @@ ghost use Rattle.program_filter.specs.Answered.{Answered};
 use std::time::Clock;
 use system_transfer::Transfer;
 
-// A program that prints one text for its whole input: the text, and the length of the buffer that it is put in.
+// A program that prints one text for its whole input: the text, the length of the buffer that the input is read into, which is one byte more than an input may
+// have, and that of the buffer that the text is put in.
 pub trait Filter {
     ghost text: { List ℕ → List ℕ };
+
+    ghost space: { ℕ };
 
     ghost room: { ℕ };
 
@@ -26,8 +29,8 @@ pub trait Filter {
 pub fn run<P: Filter, R: Input + Print + Eprint + Clock, const IN: usize, const OUT: usize>(
     rt: &R,
 ) -> bool
-    requires { (IN < 2 ^ 63) × (OUT < 2 ^ 63) × (OUT ≡ P.room) }
-    ensures { (input : List ℕ) × Answered P.text input result }
+    requires { (IN < 2 ^ 63) × (OUT < 2 ^ 63) × (IN ≡ P.space) × (OUT ≡ P.room) }
+    ensures { (input : List ℕ) × (length input ≡ P.space) × Answered P.text input result }
 {
     let mut input = [0; IN];
     let mut output = [0; OUT];

@@ -10,6 +10,8 @@ struct Qasm;
 impl Filter for Qasm {
     ghost text = { file_of };
 
+    ghost space = { 65537 };
+
     ghost room = { 524335 };
 
     fn put(out: &mut [u8], bytes: &[u8]) -> usize {

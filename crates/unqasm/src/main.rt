@@ -10,6 +10,8 @@ struct Unqasm;
 impl Filter for Unqasm {
     ghost text = { back_of };
 
+    ghost space = { 524336 };
+
     ghost room = { 65537 };
 
     fn put(out: &mut [u8], bytes: &[u8]) -> usize {
