@@ -1,8 +1,8 @@
 // Grid operators: SPEC, "Operators". The test, the image of a point, the inverse.
 #![tactic(auto)]
 
-ghost use Rattle.std.specs.Prelude.{◌≡◌, ◌≤◌, nat_abs, pos, ◌*ℤ◌};
-ghost use Rattle.operator.specs.Operator.{identity, in_range, even_parity, special, Tests, image_of, wide};
+ghost use Rattle.std.specs.Prelude.{◌≡◌, ◌≤◌, nat_abs, pos, ◌*ℤ◌, Err};
+ghost use Rattle.operator.specs.Operator.{refusal, identity, in_range, even_parity, special, Tests, image_of, wide};
 ghost use Rattle.operator.specs.Inverse.{adjugate, times, Inverts};
 ghost use Rattle.operator.specs.Accepted.{Small};
 ghost use Rattle.operator.specs.Bounded.{Near};
@@ -33,6 +33,18 @@ pub enum Refusal {
     OutOfRange,
     OddParity,
     NotSpecial,
+}
+
+impl Refusal {
+    pub fn number(self) -> u8
+        ensures { result ≡ refusal (Err self) }
+    {
+        match self {
+            Refusal::OutOfRange => refusals::OUT_OF_RANGE,
+            Refusal::OddParity => refusals::ODD_PARITY,
+            Refusal::NotSpecial => refusals::NOT_SPECIAL,
+        }
+    }
 }
 
 // A point of four 64-bit numbers.
