@@ -9,15 +9,25 @@ mod sheets;
 mod texts;
 
 fn main(rt: HostRuntime) {
-    test_rows::compare(&rt, b"cost", b"cost.txt", |row| quotes::right(row, false));
-    test_rows::compare(&rt, b"cost_runs", b"cost_runs.txt", |row| {
+    test_rows::compare(
+        &rt,
+        b"cost",
+        b"cost.txt",
+        |row, _| quotes::right(row, false),
+    );
+    test_rows::compare(&rt, b"cost_runs", b"cost_runs.txt", |row, _| {
         runs::right(row, false)
     });
-    test_rows::compare(&rt, b"tray", b"tray.txt", |row| quotes::right(row, true));
-    test_rows::compare(&rt, b"tray_runs", b"tray_runs.txt", |row| {
+    test_rows::compare(&rt, b"tray", b"tray.txt", |row, _| quotes::right(row, true));
+    test_rows::compare(&rt, b"tray_runs", b"tray_runs.txt", |row, _| {
         runs::right(row, true)
     });
-    test_rows::compare(&rt, b"write", b"write.txt", |row| texts::right(row, false));
-    test_rows::compare(&rt, b"read", b"read.txt", |row| texts::right(row, true));
-    test_rows::compare(&rt, b"sheet", b"sheet.txt", sheets::right);
+    test_rows::compare(
+        &rt,
+        b"write",
+        b"write.txt",
+        |row, _| texts::right(row, false),
+    );
+    test_rows::compare(&rt, b"read", b"read.txt", |row, _| texts::right(row, true));
+    test_rows::compare(&rt, b"sheet", b"sheet.txt", |row, _| { sheets::right(row) });
 }

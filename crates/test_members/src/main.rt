@@ -6,7 +6,7 @@ use region::{Job, Rectangle, Region, Slice};
 use test_rows::Numbers;
 
 fn main(rt: HostRuntime) {
-    test_rows::compare(&rt, b"members", b"member.txt", right);
+    test_rows::compare(&rt, b"members", b"member.txt", |row, _| { right(row) });
 }
 
 // Whether the job with the row's slice on its side says of the row's point what the row says.

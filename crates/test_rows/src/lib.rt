@@ -27,16 +27,20 @@ struct Tally {
 
 impl Tally {
     // Of the lines of a text, those that are not right.
-    fn of<F: Fn(&[u8]) -> bool>(s: &[u8], right: F) -> Tally
+    fn of<F: Fn(&[u8], &[u8]) -> bool>(s: &[u8], right: F) -> Tally
         requires { F.IsAlwaysCallable right }
     {
         let mut rows = 0u64;
         let mut different = 0u64;
-        for row in s.split_inclusive(|b| *b == b'\n') {
+        let mut at = 0usize;
+        for line in s.split_inclusive(|b| *b == b'\n') {
+            let row = line.strip_suffix(b"\n").unwrap_or(line);
+            let text = s.get(at..).unwrap_or(&[]);
             rows = rows.wrapping_add(1);
-            if !right(row) {
+            if !right(row, text) {
                 different = different.wrapping_add(1);
             }
+            at = at.wrapping_add(line.len());
         }
         Tally { rows, different }
     }
@@ -60,8 +64,8 @@ impl Tally {
     }
 }
 
-// Reads a table, and prints how many rows it has, and how many of them are not right.
-pub fn compare<R: Files + Print + Eprint + Clock, F: Fn(&[u8]) -> bool>(
+// Reads a table, and prints how many rows it has, and how many of them are not right, by each row and the text that begins with it.
+pub fn compare<R: Files + Print + Eprint + Clock, F: Fn(&[u8], &[u8]) -> bool>(
     rt: &R,
     name: &[u8],
     file: &[u8],
@@ -102,13 +106,15 @@ fn read<F: Read + Drop, R: Eprint + Clock>(
     got.at
 }
 
-// The n-th of the cells of a row, which bars part, without the space about it; empty where there are fewer.
+// The n-th of the three cells of a row, which bars part: the third goes to the row's end. Without the spaces before it and one behind it; empty where there are fewer.
 pub fn cell(row: &[u8], n: usize) -> &[u8] {
-    row.split(|b| *b == b'|').nth(n).unwrap_or(&[]).trim_ascii()
+    let whole = row.splitn(3, |b| *b == b'|').nth(n).unwrap_or(&[]);
+    let cell = whole.get(text_scan::spaces_from(whole, 0)..).unwrap_or(&[]);
+    cell.strip_suffix(b" ").unwrap_or(cell)
 }
 
 impl Numbers {
-    // The numbers of a row or of a cell, whatever stands between them.
+    // The numbers of a text, whatever stands between them.
     pub fn of(s: &[u8]) -> Numbers {
         let mut values = [0i64; WIDTH];
         let mut count = 0;

@@ -6,15 +6,11 @@ mod pairs;
 mod tails;
 
 fn main(rt: HostRuntime) {
-    test_rows::compare(&rt, b"tails", b"tails.txt", tails::right);
+    test_rows::compare(&rt, b"tails", b"tails.txt", |row, _| { tails::right(row) });
     test_rows::compare(&rt, b"words", b"words.txt", pairs::right);
 }
 
-// Whether a cell holds a word, `-` where that is empty.
-pub(crate) fn is_word(cell: &[u8], word: &[u8]) -> bool {
-    if word.is_empty() {
-        cell == b"-".as_slice()
-    } else {
-        cell == word
-    }
+// What stands behind a word at the front of a text, `-` where the word is empty.
+pub(crate) fn past_word<'a>(text: &'a [u8], word: &[u8]) -> Option<&'a [u8]> {
+    text.strip_prefix(if word.is_empty() { b"-" } else { word })
 }

@@ -1,5 +1,5 @@
 // Rows `k u t | length length | answer`: the answer is `refused R`, or U or TUT' with the part handed back, the word of U and that of TUT†.
-use crate::is_word;
+use crate::past_word;
 use gate_words::Part;
 use ring::Point;
 use test_rows::Numbers;
@@ -14,8 +14,8 @@ struct Asked {
     y: usize,
 }
 
-fn asked_of(row: &[u8]) -> Option<Asked> {
-    let n = Numbers::of(row).values;
+fn asked_of(row: Numbers) -> Option<Asked> {
+    let n = row.values;
     let (k, u) = console_arguments::scaled_at(&n, 0)?;
     let t = console_arguments::point_at(&n, 5)?;
     let x = console_arguments::byte_of(n[9])?;
@@ -29,52 +29,68 @@ fn asked_of(row: &[u8]) -> Option<Asked> {
     })
 }
 
-// Whether the words, or the refusal, are the row's.
-pub fn right(row: &[u8]) -> bool {
-    let Some(a) = asked_of(row) else {
+// Whether the words, or the refusal, are those of the row that the text begins with.
+pub fn right(row: &[u8], text: &[u8]) -> bool {
+    let n = Numbers::of(row);
+    let Some(a) = asked_of(n) else {
         return false;
     };
     let mut first = [b'.'; 128];
     let mut second = [b'.'; 128];
-    answered(row, a, &mut first, &mut second)
+    let p = answered(a, &mut first, &mut second);
+    match p {
+        Some(p) if p.number == 0 => {
+            n.count == 11
+                && behind_words(row, p, &first, &second).is_some_and(|behind| behind.is_empty())
+        }
+        Some(p) => {
+            n.count == 12
+                && i64::from(p.number) == n.values[11]
+                && refused(text, p, &first, &second)
+        }
+        None => false,
+    }
 }
 
-// Whether the call's answer is the row's. The slices hold dots, and their first x and y bytes are lent.
-fn answered<'a>(row: &[u8], a: Asked, first: &'a mut [u8], second: &'a mut [u8]) -> bool {
+// The call's answer, where the slices have the bytes that are lent. The slices hold dots, and their first x and y bytes are lent.
+fn answered<'a>(a: Asked, first: &'a mut [u8], second: &'a mut [u8]) -> Option<Part> {
     let x = a.x;
     let y = a.y;
     if first.len() < x || second.len() < y {
-        return false;
+        return None;
     }
-    let p = gate_words::spell_part(a.k, a.u, a.t, &mut first[..x], &mut second[..y]);
-    if p.number == 0 {
-        spelled(row, p, first, second)
-    } else {
-        refused(row, p, first, second)
-    }
+    Some(gate_words::spell_part(a.k, a.u, a.t, &mut first[..x], &mut second[..y]))
 }
 
-// Whether a refusal is the row's, with nothing written and nothing handed back.
-fn refused<'a>(row: &[u8], p: Part, first: &'a [u8], second: &'a [u8]) -> bool {
-    let said = test_rows::cell(row, 2);
-    said.starts_with(b"refused ")
-        && Numbers::of(said).values[0] == i64::from(p.number)
+// Whether a refusal stands behind the second bar of a text, and more behind it; nothing was written, and nothing is handed back.
+fn refused(text: &[u8], p: Part, first: &[u8], second: &[u8]) -> bool {
+    behind_two_bars(text)
+        .strip_prefix(b" refused ")
+        .is_some_and(|more| !more.is_empty())
         && gate_words::chosen(p, first, second).is_empty()
         && filled(first).is_empty()
         && filled(second).is_empty()
 }
 
-// Whether the part handed back and both words are the row's.
-fn spelled<'a>(row: &[u8], p: Part, first: &'a [u8], second: &'a [u8]) -> bool {
-    let said = test_rows::cell(row, 2);
-    let part = if p.second {
-        said.strip_prefix(b"TUT' ")
+// What stands behind the part handed back and both words, where a row has these behind its second bar.
+fn behind_words<'a>(row: &'a [u8], p: Part, first: &[u8], second: &[u8]) -> Option<&'a [u8]> {
+    let name = if p.second {
+        b"TUT' ".as_slice()
     } else {
-        said.strip_prefix(b"U ")
+        b"U ".as_slice()
     };
-    part.is_some_and(|word| is_word(word, gate_words::chosen(p, first, second)))
-        && is_word(test_rows::cell(row, 3), filled(first))
-        && is_word(test_rows::cell(row, 4), filled(second))
+    let said = behind_two_bars(row).strip_prefix(b" ")?;
+    let said = past_word(
+        said.strip_prefix(name)?,
+        gate_words::chosen(p, first, second),
+    )?;
+    let said = past_word(said.strip_prefix(b" | ")?, filled(first))?;
+    past_word(said.strip_prefix(b" | ")?, filled(second))
+}
+
+// What stands behind the second bar of a text; nothing where it has fewer.
+fn behind_two_bars(text: &[u8]) -> &[u8] {
+    text.splitn(3, |b| *b == b'|').nth(2).unwrap_or(&[])
 }
 
 // What is written into a slice of dots: up to the last byte that is none.

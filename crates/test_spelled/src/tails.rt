@@ -1,5 +1,5 @@
 // Rows `TAIL | k a b c d`: a matrix of points over √2^k, and its tail.
-use crate::is_word;
+use crate::past_word;
 use gate_theory::State;
 use ring::Point;
 use test_rows::Numbers;
@@ -13,7 +13,7 @@ pub fn right(row: &[u8]) -> bool {
     let Some(x) = state_of(n) else {
         return false;
     };
-    is_tail(test_rows::cell(row, 0), x)
+    is_tail(row, x)
 }
 
 fn state_of(row: Numbers) -> Option<State> {
@@ -40,12 +40,12 @@ fn phase_of(row: Numbers, u: Point, t: Point) -> u32 {
     phase(u, t, b, d)
 }
 
-// Whether a cell is the tail of a state.
-fn is_tail(cell: &[u8], x: State) -> bool {
+// Whether a row begins with the tail of a state, and a bar.
+fn is_tail(row: &[u8], x: State) -> bool {
     let w = gates::tail_word(x);
     let letters = w.letters;
     let len = w.len;
-    len <= 128 && is_word(cell, &letters[..len])
+    len <= 128 && past_word(row, &letters[..len]).is_some_and(|behind| behind.starts_with(b" | "))
 }
 
 // The l with b = −ω^l t† and d = ω^l u†; 8 where there is none.

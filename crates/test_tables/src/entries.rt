@@ -3,25 +3,26 @@ use crate::handed;
 use crate::handed::Given;
 use entry::Answer;
 use ring::Point;
-use test_rows::Numbers;
+use test_rows::{Numbers, WIDTH};
 
 // Whether the list of the other entries is the row's.
 pub fn right(row: &[u8]) -> bool {
     let mut out = [0i32; 400];
-    let g = asked(row, &mut out);
-    handed::is_answer(g, &out, row)
+    let n = Numbers::of(row);
+    let at = handed::asked(row);
+    let g = asked(n.values, at, &mut out);
+    handed::is_answer(g, &out, row, n, at)
 }
 
-// The answer for a row's scale and point, into as much as the row lends.
-fn asked(row: &[u8], out: &mut [i32]) -> Given {
-    let n = Numbers::of(test_rows::cell(row, 0));
-    let Some((k, v)) = console_arguments::scaled_at(&n.values, 0) else {
+// The answer for a row's scale and point, into as much as the row lends, its number at a place.
+fn asked(w: [i64; WIDTH], at: usize, out: &mut [i32]) -> Given {
+    let Some((k, v)) = console_arguments::scaled_at(&w, 0) else {
         return Given::NotCalled;
     };
-    let Some(place) = place_of(row) else {
+    let Some(place) = place_of(w, at) else {
         return Given::NotCalled;
     };
-    let l = 4 * handed::lent(row);
+    let l = 4 * handed::lent(w, at);
     if out.len() < l {
         return Given::NotCalled;
     }
@@ -31,17 +32,16 @@ fn asked(row: &[u8], out: &mut [i32]) -> Given {
     }
 }
 
-// The place after the row's point; where it has none, the beginning.
-fn place_of(row: &[u8]) -> Option<Option<Point>> {
-    let n = Numbers::of(test_rows::cell(row, 1));
-    match n.count {
-        0 => Some(None),
-        4 => after(n),
+// The place after the row's point, where that stands before so many numbers; where it has none, the beginning.
+fn place_of(w: [i64; WIDTH], at: usize) -> Option<Option<Point>> {
+    match at {
+        5 => Some(None),
+        9 => after(w),
         _ => None,
     }
 }
 
-fn after(n: Numbers) -> Option<Option<Point>> {
-    let p = console_arguments::point_at(&n.values, 0)?;
+fn after(w: [i64; WIDTH]) -> Option<Option<Point>> {
+    let p = console_arguments::point_at(&w, 5)?;
     Some(Some(p))
 }

@@ -2,28 +2,29 @@
 use crate::handed;
 use crate::handed::Given;
 use line::{Answer, Place};
-use test_rows::Numbers;
+use test_rows::{Numbers, WIDTH};
 
 // Whether the list of the line problem is the row's.
 pub fn right(row: &[u8]) -> bool {
     let mut out = [0i32; 200];
-    let g = asked(row, &mut out);
-    handed::is_answer(g, &out, row)
+    let n = Numbers::of(row);
+    let at = handed::asked(row);
+    let g = asked(n.values, at, &mut out);
+    handed::is_answer(g, &out, row, n, at)
 }
 
-// The answer for a row's intervals, into as much as the row lends.
-fn asked(row: &[u8], out: &mut [i32]) -> Given {
-    let n = Numbers::of(test_rows::cell(row, 0));
-    let Some(first) = console_arguments::interval_at(&n.values, 0) else {
+// The answer for a row's intervals, into as much as the row lends, its number at a place.
+fn asked(v: [i64; WIDTH], at: usize, out: &mut [i32]) -> Given {
+    let Some(first) = console_arguments::interval_at(&v, 0) else {
         return Given::NotCalled;
     };
-    let Some(second) = console_arguments::interval_at(&n.values, 3) else {
+    let Some(second) = console_arguments::interval_at(&v, 3) else {
         return Given::NotCalled;
     };
-    let Some(place) = place_of(row) else {
+    let Some(place) = place_of(v, at) else {
         return Given::NotCalled;
     };
-    let l = 2 * handed::lent(row);
+    let l = 2 * handed::lent(v, at);
     if out.len() < l {
         return Given::NotCalled;
     }
@@ -33,12 +34,11 @@ fn asked(row: &[u8], out: &mut [i32]) -> Given {
     }
 }
 
-// The place after the row's pair; where it has none, the beginning.
-fn place_of(row: &[u8]) -> Option<Place> {
-    let n = Numbers::of(test_rows::cell(row, 1));
-    match n.count {
-        0 => Some(Place::Beginning),
-        2 => after(n.values[0], n.values[1]),
+// The place after the row's pair, where that stands before so many numbers; where it has none, the beginning.
+fn place_of(v: [i64; WIDTH], at: usize) -> Option<Place> {
+    match at {
+        6 => Some(Place::Beginning),
+        8 => after(v[6], v[7]),
         _ => None,
     }
 }

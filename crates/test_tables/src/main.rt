@@ -12,12 +12,20 @@ use integers_wide::Size;
 use std::time::Clock;
 
 fn main(rt: HostRuntime) {
-    test_rows::compare(&rt, b"sign", b"sign.txt", sign::right);
-    test_rows::compare(&rt, b"exponent", b"exponent.txt", exponent::right);
-    test_rows::compare(&rt, b"op", b"op.txt", operators::check_right);
-    test_rows::compare(&rt, b"apply", b"apply.txt", operators::image_right);
-    test_rows::compare(&rt, b"line", b"line.txt", lines::right);
-    test_rows::compare(&rt, b"entry", b"entry.txt", entries::right);
+    test_rows::compare(&rt, b"sign", b"sign.txt", |row, _| { sign::right(row) });
+    test_rows::compare(&rt, b"exponent", b"exponent.txt", |row, _| {
+        exponent::right(row)
+    });
+    test_rows::compare(&rt, b"op", b"op.txt", |row, _| {
+        operators::check_right(row)
+    });
+    test_rows::compare(&rt, b"apply", b"apply.txt", |row, _| {
+        operators::image_right(row)
+    });
+    test_rows::compare(&rt, b"line", b"line.txt", |row, _| { lines::right(row) });
+    test_rows::compare(&rt, b"entry", b"entry.txt", |row, _| {
+        entries::right(row)
+    });
     print_wide(&rt, 0, u64::MAX);
     print_wide(&rt, 1, 0);
     print_wide(&rt, u64::MAX, u64::MAX);
