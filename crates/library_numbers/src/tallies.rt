@@ -10,7 +10,10 @@ use session_tally::Tally;
 pub(crate) fn tally_of(c: Counts) -> Tally
     ensures { result ≡ tally_of c }
 {
-    let counts = c.counts.map(|n| Size { hi: n.hi, lo: n.lo });
+    let mut counts = [Size { hi: 0, lo: 0 }; 21];
+    for (e, n) in c.counts.iter().enumerate() {
+        counts[e] = Size { hi: n.hi, lo: n.lo };
+    }
     Tally { counts }
 }
 
@@ -18,6 +21,9 @@ pub(crate) fn tally_of(c: Counts) -> Tally
 pub fn counts_of(t: Tally) -> Counts
     ensures { result ≡ counts_of t }
 {
-    let counts = t.counts.map(|n| Count { hi: n.hi, lo: n.lo });
+    let mut counts = [Count { hi: 0, lo: 0 }; 21];
+    for (e, n) in t.counts.iter().enumerate() {
+        counts[e] = Count { hi: n.hi, lo: n.lo };
+    }
     Counts { counts }
 }
