@@ -26,16 +26,20 @@ pub(crate) fn lines_of(word: &[u8]) -> usize
     n
 }
 
-// The line of a letter, and the place after it.
+// The line of a letter, and the place after it. The lines differ in their first byte alone, the letter in lower case, so that one branch does for all.
+#[tactic(auto, unfolding(gate_alphabet::specs::Letters::letter_of))]
 fn put_line(out: &mut [u8], at: usize, b: u8) -> usize
     requires { at ≤ length out.old }
     ensures { (out.new ≡ written out.old at (line (letter_of b))) × (result ≡ after out.old at (line (letter_of b))) }
 {
-    match b {
-        b'H' => text::put_bytes(out, at, b"h q[0];\n"),
-        b'S' => text::put_bytes(out, at, b"s q[0];\n"),
-        b'T' => text::put_bytes(out, at, b"t q[0];\n"),
-        _ => at,
+    if (b == b'H') | (b == b'S') | (b == b'T') {
+        text::put_bytes(
+            out,
+            at,
+            &[b + 32, b' ', b'q', b'[', b'0', b']', b';', b'\n'],
+        )
+    } else {
+        at
     }
 }
 
