@@ -3,11 +3,11 @@
 
 ghost use Rattle.job_words.specs.Rows.{job_of};
 
-use program_filter::Filter;
+use program_filter::MeasuredFilter;
 
 struct Job;
 
-impl Filter for Job {
+impl MeasuredFilter for Job {
     ghost text = { job_of };
 
     ghost space = { 458753 };
@@ -27,5 +27,5 @@ fn main(rt: HostRuntime) {
     ) {
         return;
     }
-    program_filter::run::<Job, _, 458753, 65536>(&rt);
+    program_filter::run_measured::<Job, _, 458753, 65536>(&rt);
 }

@@ -3,11 +3,11 @@
 
 ghost use Rattle.qasm_file.specs.File.{file_of};
 
-use program_filter::Filter;
+use program_filter::MeasuredFilter;
 
 struct Qasm;
 
-impl Filter for Qasm {
+impl MeasuredFilter for Qasm {
     ghost text = { file_of };
 
     ghost space = { 65537 };
@@ -27,5 +27,5 @@ fn main(rt: HostRuntime) {
     ) {
         return;
     }
-    program_filter::run::<Qasm, _, 65537, 524335>(&rt);
+    program_filter::run_measured::<Qasm, _, 65537, 524335>(&rt);
 }

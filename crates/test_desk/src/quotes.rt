@@ -4,13 +4,13 @@ use gate_tariff::Tariff;
 
 pub fn right(row: &[u8], tray: bool) -> bool {
     let mut space = io::buffer();
-    let k = cells::bytes_of(test_rows::cell(row, 1), &mut space);
+    let k = cells::bytes_of(test_rows::cell_of_three(row, 1), &mut space);
     answered(row, &space[..k], tray)
 }
 
 // Whether the library answers for a word, or a tray, what a row says.
 pub fn answered(row: &[u8], word: &[u8], tray: bool) -> bool {
-    let n = text_words::numbers_from(test_rows::cell(row, 0), 0);
+    let n = text_words::numbers_from(test_rows::cell_of_three(row, 0), 0);
     let v = n.values;
     let p = Tariff {
         h: cells::size(v[0]),

@@ -4,7 +4,7 @@ ghost use Rattle.io.specs.Counts.{IsPrefixLen};
 use crate::{cells, quotes};
 
 pub fn right(row: &[u8], tray: bool) -> bool {
-    let n = text_words::numbers_from(test_rows::cell(row, 1), 0);
+    let n = text_words::numbers_from(test_rows::cell_of_three(row, 1), 0);
     let v = n.values;
     let times = cells::size(v[0]);
     let run = cells::size(v[1]);

@@ -4,12 +4,12 @@ use pattern_sheet::{Reading, Sheet};
 use ring::Point;
 
 pub fn right(row: &[u8]) -> bool {
-    let n = text_words::numbers_from(test_rows::cell(row, 0), 0);
+    let n = text_words::numbers_from(test_rows::cell_of_three(row, 0), 0);
     let Ok(reader) = u8::try_from(cells::size(n.values[0])) else {
         return false;
     };
     let mut space = io::buffer();
-    let k = cells::bytes_of(test_rows::cell(row, 1), &mut space);
+    let k = cells::bytes_of(test_rows::cell_of_three(row, 1), &mut space);
     is_reading(row, pattern_sheet::read(reader, &space[..k]))
 }
 

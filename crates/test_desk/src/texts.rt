@@ -2,10 +2,10 @@
 use crate::cells;
 
 pub fn right(row: &[u8], reads: bool) -> bool {
-    let n = text_words::numbers_from(test_rows::cell(row, 1), 0);
+    let n = text_words::numbers_from(test_rows::cell_of_three(row, 1), 0);
     let room = cells::size(n.values[0]) as usize;
     let mut space = io::buffer();
-    let k = cells::bytes_of(test_rows::cell(row, 0), &mut space);
+    let k = cells::bytes_of(test_rows::cell_of_three(row, 0), &mut space);
     let mut out = io::buffer();
     is_right(row, &space[..k], &mut out, room, reads)
 }
@@ -31,7 +31,7 @@ fn asked(given: &[u8], lent: &mut [u8], reads: bool) -> Result<usize, gate_qasm:
 
 // Whether the first n bytes are those of the row's answer: as they stand, or in hexadecimal.
 fn is_written(row: &[u8], n: usize, out: &[u8], reads: bool) -> bool {
-    let said = test_rows::cell(row, 2);
+    let said = test_rows::cell_of_three(row, 2);
     if n == 0 {
         return said == b"-".as_slice();
     }

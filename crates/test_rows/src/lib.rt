@@ -1,7 +1,9 @@
 // Tables of text, one row a line: reading them, the cells and the numbers of a row, and how many rows differ.
 #![tactic(auto)]
 
+ghost use Rattle.std.specs.Prelude.{◌≡◌};
 ghost use Rattle.io.specs.Counts.{IsPrefixLen};
+ghost use Rattle.test_rows.specs.Cells.{cell_of};
 
 use std::io::Read;
 use std::rt::Files;
@@ -106,8 +108,15 @@ fn read<F: Read + Drop, R: Eprint + Clock>(
     got.at
 }
 
+// The n-th of the cells of a row, which bars part, without the space about it; empty where there are fewer.
+pub fn cell(row: &[u8], n: usize) -> &[u8]
+    ensures { result.now ≡ cell_of row.now n }
+{
+    row.split(|b| *b == b'|').nth(n).unwrap_or(&[]).trim_ascii()
+}
+
 // The n-th of the three cells of a row, which bars part: the third goes to the row's end. Without the spaces before it and one behind it; empty where there are fewer.
-pub fn cell(row: &[u8], n: usize) -> &[u8] {
+pub fn cell_of_three(row: &[u8], n: usize) -> &[u8] {
     let whole = row.splitn(3, |b| *b == b'|').nth(n).unwrap_or(&[]);
     let cell = whole.get(text_scan::spaces_from(whole, 0)..).unwrap_or(&[]);
     cell.strip_suffix(b" ").unwrap_or(cell)

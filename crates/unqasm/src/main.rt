@@ -3,11 +3,11 @@
 
 ghost use Rattle.qasm_file.specs.File.{back_of};
 
-use program_filter::Filter;
+use program_filter::MeasuredFilter;
 
 struct Unqasm;
 
-impl Filter for Unqasm {
+impl MeasuredFilter for Unqasm {
     ghost text = { back_of };
 
     ghost space = { 524336 };
@@ -27,5 +27,5 @@ fn main(rt: HostRuntime) {
     ) {
         return;
     }
-    program_filter::run::<Unqasm, _, 524336, 65537>(&rt);
+    program_filter::run_measured::<Unqasm, _, 524336, 65537>(&rt);
 }

@@ -1,0 +1,2 @@
+-- The cells of a row.
+pub mod Cells
